@@ -1,0 +1,23 @@
+//! The words that every other crate speaks: texts and lists, entities and items, streams of
+//! messages, the verdicts of tasks, and a count of steps.
+#![tactic(auto)]
+
+mod entity;
+mod item;
+mod kind;
+mod parts;
+mod sequence;
+mod steps;
+mod stream;
+mod text;
+mod verdict;
+
+pub use entity::Entity;
+pub use item::{Act, Item, Items};
+pub use kind::{Flow, Key, Kind};
+pub use parts::{Body, Member, Members, Place, Refs, Tag, Tags};
+pub use sequence::{Bytes, NoMemory, Sequence};
+pub use steps::Steps;
+pub use stream::{End, Message, Want};
+pub use text::{Text, TextError};
+pub use verdict::{Cause, Spot, Verdict};

@@ -1,0 +1,6 @@
+//! The outside of a run: where bytes come from, where they go, and what is told when a device fails.
+#![tactic(auto)]
+
+mod outside;
+
+pub use outside::{Failed, Host, HostError, Op, Sink, Source};
