@@ -2,5 +2,8 @@
 #![tactic(auto)]
 
 mod cutting;
+mod digits;
+mod whole;
 
 pub use cutting::first_part;
+pub use whole::{BadNumber, read_whole, write_whole};

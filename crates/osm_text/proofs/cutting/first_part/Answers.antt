@@ -1,22 +1,12 @@
-use Rattle.std.proofs.Common.{◌≡◌, ◌-◌, ◌+◌, ◌∷◌, ℕ, Bool, true, false, List, length, take, drop, [], None, Some, arith, refl, nat_lt}
-use Rattle.std.specs.Prelude.{if◌then◌else◌}
+use Rattle.std.proofs.Common.{◌≡◌, ◌-◌, ◌+◌, ◌∷◌, ℕ, Bool, false, List, length, take, drop, [], None, Some, arith, nat_lt}
 use Rattle.std.specs.List.{position, position_or_len, slice_split}
 use Rattle.std.proofs.lemmas.Bool.{ltb-true, ltb-false}
 use Rattle.std.proofs.lemmas.List.{take_rest}
 use Rattle.std.proofs.lemmas.List.Elements.{All-from_get_or}
 use Rattle.std.proofs.lemmas.List.Sums.{fails_before_first}
 use Rattle.std.proofs.lemmas.List.Splits.{slice_split_first, slice_split_none}
+use Rattle.osm_text.proofs.KeptLemmas.{kept_some, kept_none}
 use Rattle.osm_text.proofs.cutting.first_part.Goals as goal
-
--- a number kept by a test is that number, and the test passed
-kept_some : (test : Bool) (n k : ℕ) → Some k ≡ (if test then Some n else None) → (k ≡ n) × (test ≡ true)
-kept_some true n k is = (cc, refl)
-kept_some false n k is = cc
-
--- where a test kept no number, it failed
-kept_none : (test : Bool) (n : ℕ) → None ≡ (if test then Some n else None) → test ≡ false
-kept_none true n is = cc
-kept_none false n is = refl
 
 -- a cut at the position takes off the first part
 split-position : (test : ℕ → Bool) (bytes : List ℕ) (k : ℕ) → Some k ≡ position test bytes →
