@@ -1,10 +1,10 @@
 -- Lists that hold only digits.
-use Rattle.std.proofs.Common.{◌≡◌, ◌<◌, ◌≤◌, ◌+◌, ◌*◌, ◌^◌, ℕ, Bool, true, false, List, length, take, get_or, min, None, Some, refl, arith, rules}
+use Rattle.std.proofs.Common.{◌≡◌, ◌<◌, ◌≤◌, ◌+◌, ◌*◌, ◌^◌, ℕ, Bool, true, false, List, length, take, get_or, min, Option, None, Some, IfSome, refl, arith, rules}
 use Rattle.std.specs.Prelude.{if◌then◌else◌, ◌&&◌, nat_lt, nat_le}
 use Rattle.std.specs.Char.{is_digit, digit_value}
 use Rattle.std.specs.List.{list_all}
 use Rattle.std.specs.Str.Parse.{digits_value}
-use Rattle.std.proofs.lemmas.Bool.{and_from, le-leb}
+use Rattle.std.proofs.lemmas.Bool.{and_from, and_parts, le-leb}
 use Rattle.std.proofs.lemmas.Bool.Decides.{nat_tests}
 use Rattle.std.proofs.lemmas.Int.Digits.{digits_value_more}
 use Rattle.std.proofs.lemmas.List.Folds.{list_all_more}
@@ -51,3 +51,16 @@ pub short_digits : (most : ℕ) (bytes : List ℕ) → length bytes ≤ most →
 short_digits most bytes within small =
     short_digits_at (list_all (λ c. is_digit c 10) bytes) most bytes within
     (λ digits. digits_value_short digits_model bytes 18 digits (omega arith))
+
+-- what is_digits says of each byte
+pub list_all-are_digits : (most : ℕ) (bytes : List ℕ) → are_digits most bytes ≡ true → list_all (λ c. is_digit c 10) bytes ≡ true
+list_all-are_digits most bytes digits =
+    (and_parts (nat_lt 0 (length bytes) && nat_le (length bytes) most) (list_all (λ c. is_digit c 10) bytes) digits).1
+
+-- a number of so many digits at most lies below that power of ten
+pub digits-size : (most : ℕ) (bytes : List ℕ) (read : Option ℕ) → length bytes ≤ most →
+    read ≡ (if are_digits most bytes then Some (digits_value 10 bytes) else None) → IfSome read (λ n. n < 10 ^ most)
+digits-size most bytes None within is = tt
+digits-size most bytes (Some n) within is =
+    let kept = kept_some (are_digits most bytes) (digits_value 10 bytes) n is in
+    rw kept.0 (digits_value_short digits_model bytes most (list_all-are_digits most bytes kept.1) within)

@@ -1,5 +1,5 @@
 //! Digits, read from the left. Numbers past 64 bits are held as one number that is too large.
-ghost use Rattle.std.specs.Prelude.{◌≡◌, ◌<◌, ◌≤◌, ◌+◌, ◌*◌, ◌^◌, ℕ, None, Some, length, min, if◌then◌else◌};
+ghost use Rattle.std.specs.Prelude.{◌≡◌, ◌<◌, ◌≤◌, ◌+◌, ◌*◌, ◌^◌, ℕ, None, Some, IfSome, length, min, if◌then◌else◌};
 ghost use Rattle.std.specs.Char.{digit_value, is_digit};
 ghost use Rattle.std.specs.Str.Parse.{digits_value};
 ghost use Rattle.osm_text.specs.Numbers.{are_digits};
@@ -52,7 +52,9 @@ pub(crate) fn size_of_digits(bytes: &[u8]) -> Option<u64>
 /// than `most`.
 pub(crate) fn read_digits(bytes: &[u8], most: usize) -> Option<u64>
     requires { most ≤ 18 }
-    ensures { result ≡ (if are_digits most bytes.now then Some (digits_value 10 bytes.now) else None) }
+    ensures value { result ≡ (if are_digits most bytes.now then Some (digits_value 10 bytes.now) else None) }
+    ensures size { IfSome result (λ n. n < 10 ^ most) }
+    ensures places { IfSome result (λ _. length bytes.now ≤ most) }
 {
     if bytes.len() > most {
         return None;

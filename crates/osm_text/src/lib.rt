@@ -3,7 +3,10 @@
 
 mod cutting;
 mod digits;
+mod fraction;
+mod nano;
 mod whole;
 
 pub use cutting::first_part;
+pub use nano::{read_nano, write_nano};
 pub use whole::{BadNumber, read_whole, write_whole};
