@@ -2,5 +2,7 @@
 #![tactic(auto)]
 
 mod outside;
+mod tallies;
 
 pub use outside::{Failed, Host, HostError, Op, Sink, Source};
+pub use tallies::{Faults, Tallies, Tally};
