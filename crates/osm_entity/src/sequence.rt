@@ -1,5 +1,5 @@
 //! A list that says when memory is wanted. Contracts see it as the list of its elements.
-ghost use Rattle.std.specs.Prelude.{◌≡◌, ◌++◌, ◌∷◌, [], length, take, IfOk, OnOk, OnErr, MatchOption};
+ghost use Rattle.std.specs.Prelude.{◌≡◌, ◌++◌, ◌∷◌, [], length, take, slice_set, ◌<◌, IfOk, OnOk, OnErr, MatchOption};
 
 use std::alloc::Global;
 use std::marker::Model;
@@ -38,6 +38,16 @@ impl<T> Sequence<T> {
         }
     }
 
+    /// The empty list, with room for `capacity` elements.
+    pub fn with_room(alloc: Global, capacity: usize) -> Result<Self, NoMemory>
+        ensures { IfOk result (λ s. s ≡ []) }
+    {
+        match Vec::with_capacity(alloc, capacity) {
+            Ok(items) => Ok(Sequence { items }),
+            Err(_) => Err(NoMemory),
+        }
+    }
+
     pub fn as_slice(&self) -> &[T]
         ensures { result.now ≡ self.now }
     {
@@ -68,6 +78,14 @@ impl<T: Drop> Sequence<T> {
             Ok(()) => Ok(()),
             Err(_) => Err(NoMemory),
         }
+    }
+
+    /// Puts an element in the place of the one at `at`. It takes no memory.
+    pub fn set(&mut self, at: usize, item: T)
+        requires { at < length self.old }
+        ensures { self.new ≡ slice_set self.old at item }
+    {
+        self.items[at] = item;
     }
 
     /// Keeps the first `count` elements, or all where there are no more. It takes no memory.
