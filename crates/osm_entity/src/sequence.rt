@@ -38,6 +38,16 @@ impl<T> Sequence<T> {
         }
     }
 
+    /// The empty list, with room for `capacity` elements.
+    pub fn with_room(alloc: Global, capacity: usize) -> Result<Self, NoMemory>
+        ensures { IfOk result (λ s. s ≡ []) }
+    {
+        match Vec::with_capacity(alloc, capacity) {
+            Ok(items) => Ok(Sequence { items }),
+            Err(_) => Err(NoMemory),
+        }
+    }
+
     pub fn as_slice(&self) -> &[T]
         ensures { result.now ≡ self.now }
     {

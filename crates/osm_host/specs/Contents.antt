@@ -1,6 +1,6 @@
 -- What files, sources and sinks hold, where it is told: `None` tells nothing.
 -- Here files are one finite map; the code of a host keeps them as it likes.
-use Rattle.std.specs.Prelude.{◌≡◌, ℕ, ◌≤◌, List, [], length, take, Bool, false, ⊤, Option, Some, None, Ok, Err}
+use Rattle.std.specs.Prelude.{◌≡◌, ℕ, ◌≤◌, List, [], length, take, false, ⊤, Option, Some, None, Ok, Err}
 use Rattle.std.specs.FinMap as map
 use Rattle.std.specs.Option.{option_map}
 use Rattle.std.specs.Ordering.{nat_cmp}

@@ -1,6 +1,6 @@
 -- Counts of faults: what each call may do to them. A count never falls, and stops at 2^64 - 1.
 -- Here a count is a function of a kind of call and a name; a host in memory keeps a row for each name.
-use Rattle.std.specs.Prelude.{◌≡◌, ℕ, ◌+◌, ◌-◌, ◌^◌, ◌≤◌, min, max, List, Bool, true, false, ◌&&◌, if◌then◌else◌, ◌==◌, Ok, Err}
+use Rattle.std.specs.Prelude.{◌≡◌, ℕ, ◌+◌, ◌-◌, ◌^◌, ◌≤◌, min, max, List, Bool, false, ◌&&◌, if◌then◌else◌, ◌==◌, Ok, Err}
 use Rattle.std.specs.Str.{bytes_eq}
 use Rattle.std.specs.declared.result.Result.{Result}
 use Rattle.osm_host.specs.declared.outside.Failed.{Failed as Failure}

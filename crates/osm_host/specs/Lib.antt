@@ -1,3 +1,5 @@
 pub mod Contents
 pub mod Counts
+pub mod Moments
 pub mod Names
+pub mod Tallies

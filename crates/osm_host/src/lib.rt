@@ -1,6 +1,10 @@
 //! The outside of a run: where bytes come from, where they go, and what is told when a device fails.
 #![tactic(auto)]
 
+mod memory;
 mod outside;
+mod tallies;
 
+pub use memory::{FailAt, Fails, MemorySink, MemorySource};
 pub use outside::{Failed, Host, HostError, Op, Sink, Source};
+pub use tallies::{Faults, Tallies, Tally};

@@ -1,0 +1,44 @@
+-- A row pushed for a name, or no row where memory was wanted: what the names and the counts are then.
+use Rattle.std.proofs.Common.{◌≡◌, ℕ, List, [], ◌∷◌, ◌++◌, sym, subst, ◌∙◌, refl, ap}
+use Rattle.std.proofs.lemmas.List.{map-append}
+use Rattle.std.proofs.lemmas.List.Elements.{Contains-append_left, Contains-push}
+use Rattle.std.specs.Prelude.{Contains, OnOk, OnErr, Ok, Err}
+use Rattle.std.specs.declared.result.Result.{Result}
+use Rattle.osm_host.specs.declared.outside.Op.{Op}
+use Rattle.osm_host.specs.declared.outside.Op.TheVariants.{Open, Make, Pull, Put, Keep}
+use Rattle.osm_host.specs.declared.tallies.Tally.{Tally}
+use Rattle.osm_host.specs.Tallies.{new_row, no_faults, faults_of, faults_in, given_in, names_in}
+use Rattle.osm_host.proofs.Named.{named-push}
+
+-- a new row has no faults of any kind
+none_of : (o : Op) → faults_of no_faults o ≡ 0
+none_of Open = refl
+none_of Make = refl
+none_of Pull = refl
+none_of Put = refl
+none_of Keep = refl
+
+names_pushed : (rows : List Tally) (name : List ℕ) → names_in (rows ++ new_row name ∷ []) ≡ names_in rows ++ name ∷ []
+names_pushed rows name = map-append (λ t. t.name) rows (new_row name ∷ [])
+
+module _ {A E : Type 0} (name : List ℕ) (rows now : List Tally) where
+  pub entered-keeps : (result : Result A E) → OnOk result (now ≡ rows ++ new_row name ∷ []) → OnErr result (now ≡ rows) →
+      (n : List ℕ) → Contains (names_in rows) n → Contains (names_in now) n
+  entered-keeps (Ok x) ok err n has =
+      subst (λ names. Contains names n) (sym (ap names_in ok ∙ names_pushed rows name)) (Contains-append_left (names_in rows) _ n has)
+  entered-keeps (Err e) ok err n has = subst (λ rows. Contains (names_in rows) n) (sym err) has
+
+  pub entered-own : (result : Result A E) → OnOk result (now ≡ rows ++ new_row name ∷ []) → OnOk result (Contains (names_in now) name)
+  entered-own (Ok x) ok = subst (λ names. Contains names name) (sym (ap names_in ok ∙ names_pushed rows name)) (Contains-push (names_in rows) name)
+  entered-own (Err e) ok = tt
+
+  pub entered-counts : (result : Result A E) → OnOk result (now ≡ rows ++ new_row name ∷ []) → OnErr result (now ≡ rows) →
+      (o : Op) (n : List ℕ) → faults_in now o n ≡ faults_in rows o n
+  entered-counts (Ok x) ok err o n =
+      ap (λ rows. faults_in rows o n) ok ∙ named-push (λ t. t.name) (λ t. faults_of t.faults o) 0 rows (new_row name) (none_of o) n
+  entered-counts (Err e) ok err o n = ap (λ rows. faults_in rows o n) err
+
+  pub entered-gave : (result : Result A E) → OnOk result (now ≡ rows ++ new_row name ∷ []) → OnErr result (now ≡ rows) →
+      (n : List ℕ) → given_in now n ≡ given_in rows n
+  entered-gave (Ok x) ok err n = ap (λ rows. given_in rows n) ok ∙ named-push (λ t. t.name) (λ t. t.gave) 0 rows (new_row name) refl n
+  entered-gave (Err e) ok err n = ap (λ rows. given_in rows n) err

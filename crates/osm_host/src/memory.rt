@@ -1,0 +1,9 @@
+//! A host whose files lie in memory, with its sources and sinks. It tells everything.
+
+mod plan;
+mod sink;
+mod source;
+
+pub use plan::{FailAt, Fails};
+pub use sink::MemorySink;
+pub use source::MemorySource;

@@ -1,0 +1,214 @@
+//! The counts of a host: a row for each name that was opened, with its faults and the bytes given.
+ghost use Rattle.std.specs.Prelude.{◌≡◌, ℕ, ◌⊎◌, ◌<◌, ◌==◌, if◌then◌else◌, List, [], false, Contains, ◌++◌, ◌∷◌, OnOk, OnErr, IsTrue, position, Some};
+ghost use Rattle.std.specs.Str.{bytes_eq};
+ghost use Rattle.osm_host.specs.Counts.{raised, is_at, Rises, Adds, GaveOnly};
+ghost use Rattle.osm_host.specs.Tallies.{faults_of, raised_at, faults_in, given_in, names_in, new_row, no_faults};
+ghost use Rattle.osm_host.specs.declared.outside.Op.{Op};
+
+use crate::outside::Op;
+use osm_entity::{NoMemory, Text};
+use std::alloc::Global;
+use std::marker::Model;
+
+/// How many calls of each kind failed on one name. Each count stops at 2^64 - 1.
+#[derive(Clone, Copy, Debug)]
+pub struct Faults {
+    pub opens: u64,
+    pub makes: u64,
+    pub pulls: u64,
+    pub puts: u64,
+    pub keeps: u64,
+}
+
+impl Faults {
+    /// No call failed.
+    pub fn none() -> Faults
+        ensures { result ≡ no_faults }
+    {
+        Faults {
+            opens: 0,
+            makes: 0,
+            pulls: 0,
+            puts: 0,
+            keeps: 0,
+        }
+    }
+
+    /// Raises the count of this kind of call.
+    pub fn add(&mut self, op: Op, more: u64)
+        ensures { (o : Op) → faults_of self.new o ≡ raised_at op o (faults_of self.old o) more }
+    {
+        match op {
+            Op::Open => self.opens = self.opens.saturating_add(more),
+            Op::Make => self.makes = self.makes.saturating_add(more),
+            Op::Pull => self.pulls = self.pulls.saturating_add(more),
+            Op::Put => self.puts = self.puts.saturating_add(more),
+            Op::Keep => self.keeps = self.keeps.saturating_add(more),
+        }
+    }
+}
+
+/// The row of one name.
+#[derive(Debug, Drop)]
+pub struct Tally {
+    pub name: Text,
+    pub faults: Faults,
+    /// How many bytes its closed sources gave; it stops at 2^64 - 1.
+    pub gave: u64,
+}
+
+impl Tally {
+    /// Raises what was given.
+    fn give(&mut self, more: u64)
+        ensures gave { self.new.gave ≡ raised self.old.gave more }
+        ensures name { self.new.name ≡ self.old.name }
+        ensures faults { self.new.faults ≡ self.old.faults }
+    {
+        self.gave = self.gave.saturating_add(more);
+    }
+}
+
+/// The rows of a host. Contracts see them as a list.
+#[derive(Debug, Drop)]
+pub struct Tallies {
+    rows: Vec<Tally>,
+}
+
+impl Model for Tallies {
+    ghost use Rattle.std.specs.Prelude.{List};
+    ghost use Rattle.osm_host.specs.declared.tallies.Tally.{Tally};
+
+    ghost Value = { List Tally };
+
+    ghost view = { λ t. t.rows.items };
+}
+
+fn place_of(rows: &[Tally], name: &Text) -> Option<usize>
+    ensures { result ≡ position (λ t. bytes_eq name.now t.name) rows.now }
+{
+    rows.iter().position(|row| row.name.is(name))
+}
+
+/// Where the row of this name is.
+fn row_of(rows: &[Tally], name: &Text) -> usize
+    requires { Contains (names_in rows.now) name.now }
+    ensures { Some result ≡ position (λ t. bytes_eq name.now t.name) rows.now }
+{
+    match place_of(rows, name) {
+        Some(at) => at,
+        None => unreachable!(),
+    }
+}
+
+fn add_in(rows: &mut [Tally], op: Op, name: &Text, more: u64)
+    requires { Contains (names_in rows.old) name.now }
+    ensures counts { Adds op name.now more (faults_in rows.old) (faults_in rows.new) }
+    ensures gave { (n : List ℕ) → given_in rows.new n ≡ given_in rows.old n }
+    ensures known { names_in rows.new ≡ names_in rows.old }
+{
+    let at = row_of(rows, name);
+    let row = &mut rows[at];
+    row.faults.add(op, more);
+}
+
+fn give_in(rows: &mut [Tally], name: &Text, more: u64)
+    requires { Contains (names_in rows.old) name.now }
+    ensures gave { GaveOnly name.now more (given_in rows.old) (given_in rows.new) }
+    ensures counts { (o : Op) (n : List ℕ) → faults_in rows.new o n ≡ faults_in rows.old o n }
+    ensures known { names_in rows.new ≡ names_in rows.old }
+{
+    let at = row_of(rows, name);
+    let row = &mut rows[at];
+    row.give(more);
+}
+
+fn has_row(rows: &[Tally], name: &Text) -> bool
+    ensures { IsTrue result → Contains (names_in rows.now) name.now }
+{
+    match place_of(rows, name) {
+        Some(_at) => true,
+        None => false,
+    }
+}
+
+fn push_row(rows: &mut Vec<Tally>, alloc: Global, name: &Text) -> Result<(), NoMemory>
+    ensures ok { OnOk result (rows.new.items ≡ rows.old.items ++ new_row name.now ∷ []) }
+    ensures err { OnErr result (rows.new.items ≡ rows.old.items) }
+{
+    let row = Tally {
+        name: name.copy(alloc)?,
+        faults: Faults::none(),
+        gave: 0,
+    };
+    match rows.push(row) {
+        Ok(()) => Ok(()),
+        Err(_) => Err(NoMemory),
+    }
+}
+
+fn enter_in(rows: &mut Vec<Tally>, alloc: Global, name: &Text) -> Result<(), NoMemory>
+    ensures keeps { (n : List ℕ) → Contains (names_in rows.old.items) n → Contains (names_in rows.new.items) n }
+    ensures only { (n : List ℕ) → Contains (names_in rows.new.items) n → Contains (names_in rows.old.items) n ⊎ (n ≡ name.now) }
+    ensures own { OnOk result (Contains (names_in rows.new.items) name.now) }
+    ensures counts { (o : Op) (n : List ℕ) → faults_in rows.new.items o n ≡ faults_in rows.old.items o n }
+    ensures gave { (n : List ℕ) → given_in rows.new.items n ≡ given_in rows.old.items n }
+{
+    if has_row(rows, name) {
+        return Ok(());
+    }
+    push_row(rows, alloc, name)
+}
+
+impl Tallies {
+    /// No rows. It takes no memory.
+    pub fn new(alloc: Global) -> Tallies
+        ensures { result ≡ [] }
+    {
+        Tallies {
+            rows: Vec::new(alloc),
+        }
+    }
+
+    /// Makes a row of zeros for this name, where it has none.
+    /// At `Err` there is no new row.
+    pub fn enter(&mut self, alloc: Global, name: &Text) -> Result<(), NoMemory>
+        ensures keeps { (n : List ℕ) → Contains (names_in self.old) n → Contains (names_in self.new) n }
+        ensures only { (n : List ℕ) → Contains (names_in self.new) n → Contains (names_in self.old) n ⊎ (n ≡ name.now) }
+        ensures own { OnOk result (Contains (names_in self.new) name.now) }
+        ensures counts { (o : Op) (n : List ℕ) → faults_in self.new o n ≡ faults_in self.old o n }
+        ensures gave { (n : List ℕ) → given_in self.new n ≡ given_in self.old n }
+    {
+        enter_in(&mut self.rows, alloc, name)
+    }
+
+    /// Raises the count of this kind of call on this name.
+    pub fn add(&mut self, op: Op, name: &Text, more: u64)
+        requires { Contains (names_in self.old) name.now }
+        ensures counts { Adds op name.now more (faults_in self.old) (faults_in self.new) }
+        ensures gave { (n : List ℕ) → given_in self.new n ≡ given_in self.old n }
+        ensures known { names_in self.new ≡ names_in self.old }
+    {
+        add_in(&mut self.rows, op, name, more);
+    }
+
+    /// Counts a call of this kind on this name that failed.
+    pub fn fail(&mut self, op: Op, name: &Text)
+        requires { Contains (names_in self.old) name.now }
+        ensures own { Rises (faults_in self.old op name.now) (faults_in self.new op name.now) }
+        ensures others { (o : Op) (n : List ℕ) → is_at op name.now o n ≡ false → faults_in self.new o n ≡ faults_in self.old o n }
+        ensures gave { (n : List ℕ) → given_in self.new n ≡ given_in self.old n }
+        ensures known { names_in self.new ≡ names_in self.old }
+    {
+        self.add(op, name, 1);
+    }
+
+    /// Raises what was given under this name.
+    pub fn give(&mut self, name: &Text, more: u64)
+        requires { Contains (names_in self.old) name.now }
+        ensures gave { GaveOnly name.now more (given_in self.old) (given_in self.new) }
+        ensures counts { (o : Op) (n : List ℕ) → faults_in self.new o n ≡ faults_in self.old o n }
+        ensures known { names_in self.new ≡ names_in self.old }
+    {
+        give_in(&mut self.rows, name, more);
+    }
+}
