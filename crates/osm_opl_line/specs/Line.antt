@@ -61,10 +61,19 @@ plain_fields flow x y id = record {
   list = None;
 }
 
+-- the fields of such a node, where it has an id
+abbrev pub plain_of : Flow → List ℕ → List ℕ → Option ℤ → Option Fields
+plain_of flow x y id = option_map (plain_fields flow x y) id
+
+-- the content of a piece, where it begins with this letter
+abbrev pub content_of : ℕ → List ℕ → Option (List ℕ)
+content_of letter [] = None
+content_of letter (first ∷ rest) = if first == letter then Some rest else None
+
 -- the fields of three pieces: n and an id, x and a content, y and a content
 abbrev pub fields_of : Flow → List (List ℕ) → Option Fields
 fields_of flow ((n ∷ id) ∷ (x ∷ lon) ∷ (y ∷ lat) ∷ []) =
-    if n == 110 && x == 120 && y == 121 then option_map (plain_fields flow lon lat) (whole id) else None
+    if n == 110 && x == 120 && y == 121 then plain_of flow lon lat (whole id) else None
 fields_of flow parts = None
 
 -- a line of an entity file keeps its entity; of a change file, at version 0, it modifies it
