@@ -1,6 +1,6 @@
 -- Numbers as texts: whole numbers, and decimal numbers of nanodegrees.
 -- Here a text is looked at whole; the code goes through it digit by digit.
-use Rattle.std.specs.Prelude.{ℕ, ℤ, pos, negsuc, neg_ℤ, nat_abs, ◌+◌, ◌-◌, ◌*◌, ◌/◌, ◌%◌, ◌^◌, List, [], ◌∷◌, ◌++◌, length, take, drop, replicate, Bool, true, false, ◌&&◌, ◌==◌, nat_lt, nat_le, int_lt, if◌then◌else◌, Option, Some, None, codes, decimal, slice_index}
+use Rattle.std.specs.Prelude.{ℕ, ℤ, pos, neg_ℤ, nat_abs, ◌+◌, ◌-◌, ◌*◌, ◌/◌, ◌%◌, ◌^◌, List, [], ◌∷◌, ◌++◌, length, take, drop, replicate, Bool, ◌&&◌, ◌==◌, nat_lt, nat_le, int_lt, if◌then◌else◌, Option, Some, None, codes, decimal, slice_index}
 use Rattle.std.specs.Char.{is_digit}
 use Rattle.std.specs.List.{slice_split, list_all, suffix_len}
 use Rattle.std.specs.Str.Parse.{digits_value}

@@ -1,11 +1,12 @@
 //! Numbers as texts, both ways: whole numbers, and degrees in nanodegrees.
 #![tactic(auto)]
 
-ghost use Rattle.std.specs.Prelude.{◌≡◌, None, [], IfOk};
-ghost use Rattle.osm_text.specs.Numbers.{whole, short, nano_text};
+mod cutting;
+mod digits;
+mod fraction;
+mod nano;
+mod whole;
 
-use osm_entity::{Bytes, NoMemory};
-
-pub fn nothing()
-    ensures { short [] ≡ None }
-{}
+pub use cutting::first_part;
+pub use nano::{read_nano, write_nano};
+pub use whole::{BadNumber, read_whole, write_whole};

@@ -1,0 +1,4 @@
+mod DigitsLemmas
+mod FractionLemmas
+mod KeptLemmas
+mod ShortLemmas
