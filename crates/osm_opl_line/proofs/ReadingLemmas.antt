@@ -63,8 +63,8 @@ pub ended : (whole_file : Reading) (flow : Flow) (clean : Bool) (number : ℕ) (
 ended whole_file flow clean number bytes line more items taken cause known cut bad same =
     let reading : Reading = read_lines flow clean (number + 1) (lines_of clean (slice_split (λ b. b == 10) more)) in
     let stops : whole_file ≡ after items (before number (Bad cause) reading) =
-        subst (λ l. whole_file ≡ after items (before number l reading)) bad
-        (subst (λ r. whole_file ≡ after items r) (read_lines-cut flow clean number bytes line more cut) known) in
+    subst (λ l. whole_file ≡ after items (before number l reading)) bad
+    (subst (λ r. whole_file ≡ after items r) (read_lines-cut flow clean number bytes line more cut) known) in
     let all : taken ≡ items ++ [] = rw append-nil same in
     subst (λ r. reading_of taken (BadLine cause number) ≡ r) (sym stops) (ap (λ i. reading_of i (BadLine cause number)) all)
 
@@ -74,7 +74,7 @@ node_of-plain id None lat item said = absurd (none-some item said)
 node_of-plain id (Some lon) None item said = absurd (none-some item said)
 node_of-plain id (Some lon) (Some lat) item said =
     let parts = cond_some (place_fits (record { lon = lon; lat = lat }))
-        (plain_item Entities id (record { lon = lon; lat = lat })) item said in
+    (plain_item Entities id (record { lon = lon; lat = lat })) item said in
     subst IsPlain parts.1 (record { place = record { lon = lon; lat = lat }; kept = refl; plain = refl })
 
 -- the fields of a line know the flow of its file

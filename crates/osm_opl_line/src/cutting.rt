@@ -11,8 +11,8 @@ ghost use Rattle.osm_text.specs.Numbers.{whole, short};
 ghost use Rattle.osm_entity.specs.declared.verdict.Cause.TheVariants.{NotBuilt};
 ghost use Rattle.osm_opl_line.specs.Line.{Skipped, Bad, pieces, content_of, plain_of, plain_item, node_of, fields_of, item_of, said_by, opl_line};
 
-use crate::numbers::{first_part, read_nano, read_whole};
 use osm_entity::{Cause, Flow, Kind, Place};
+use osm_text::{first_part, read_nano, read_whole};
 use std::marker::Model;
 
 /// The fields of a line that says an item. A field is the content after its letter.

@@ -7,7 +7,6 @@
 
 mod cutting;
 mod making;
-mod numbers;
 mod reading;
 mod writing;
 

@@ -10,8 +10,8 @@ ghost use Rattle.osm_opl_line.specs.Seen.{ending_seen, reading_seen};
 ghost use Rattle.osm_opl_line.specs.Writing.{IsPlain};
 
 use crate::cutting::cut_line;
-use crate::numbers::first_part;
 use osm_entity::{Cause, Flow, Items, NoMemory};
+use osm_text::first_part;
 use std::alloc::Global;
 
 /// How the reading of a file ended.

@@ -5,8 +5,8 @@ ghost use Rattle.std.specs.Prelude.{◌≡◌, ◌++◌, OnOk, OnErr, IsTrue};
 ghost use Rattle.osm_entity.specs.Entities.{place_fits, body_fits};
 ghost use Rattle.osm_opl_line.specs.Writing.{IsPlain, line_text, body_text, place_text, BeginsWith};
 
-use crate::numbers::{write_nano, write_whole};
 use osm_entity::{Body, Bytes, Item, NoMemory, Place};
+use osm_text::{write_nano, write_whole};
 
 /// Appends the line of a plain node, with its newline. At `Err` nothing is appended.
 pub fn write_line(out: &mut Bytes, item: &Item) -> Result<(), NoMemory>

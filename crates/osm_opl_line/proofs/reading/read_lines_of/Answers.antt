@@ -34,9 +34,9 @@ loop-line-preserved c =
     let passes = rw c.in_default-2.is at c.in_ok-cause.ensures.none in
     record {
       known =
-        after-passed (opl_reading c.args.flow c.args.bytes.now c.args.clean) c.args.flow c.args.clean c.loop-line.number
-        c.loop-line.rest.now c.in-Some.line.now c.in-Some.more.now c.loop-line.items c.take_line.new.items
-        c.loop-line.invariant.known c.in-Some.ensures.some passes;
+          after-passed (opl_reading c.args.flow c.args.bytes.now c.args.clean) c.args.flow c.args.clean c.loop-line.number
+          c.loop-line.rest.now c.in-Some.line.now c.in-Some.more.now c.loop-line.items c.take_line.new.items
+          c.loop-line.invariant.known c.in-Some.ensures.some passes;
       counted = omega (arith, c.in-Some.ensures.shorter);
     }
 

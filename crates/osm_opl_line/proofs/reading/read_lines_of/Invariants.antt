@@ -7,7 +7,7 @@ use Rattle.osm_opl_line.proofs.reading.read_lines_of.Given as goal
 abbrev pub invariant-loop-line : goal.invariant-loop-line
 invariant-loop-line l = record {
   known : opl_reading l.flow l.bytes l.clean
-    ≡ after l.items (read_lines l.flow l.clean l.number (lines_of l.clean (slice_split (λ b. b == 10) l.rest)));
+      ≡ after l.items (read_lines l.flow l.clean l.number (lines_of l.clean (slice_split (λ b. b == 10) l.rest)));
   counted : l.number + length l.rest ≤ length l.bytes + 1;
 }
 
