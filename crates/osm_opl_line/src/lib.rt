@@ -8,6 +8,8 @@
 mod cutting;
 mod making;
 mod reading;
+#[cfg(test)]
+mod tests;
 mod writing;
 
 pub use cutting::{Line, cut_line};
