@@ -1,4 +1,5 @@
 mod DigitsLemmas
 mod FractionLemmas
 mod KeptLemmas
+mod ReadBackLemmas
 mod ShortLemmas

@@ -13,7 +13,7 @@ use Rattle.osm_text.specs.Numbers.{are_digits, nanos, short_parts, signed}
 use Rattle.osm_text.proofs.DigitsLemmas.{list_all-are_digits}
 
 -- a digit is no point
-digit-no_point : (c : ℕ) → is_digit c 10 ≡ true → (c == 46) ≡ false
+pub digit-no_point : (c : ℕ) → is_digit c 10 ≡ true → (c == 46) ≡ false
 digit-no_point c digit = grind (arith, nat_tests)
 
 -- digits have no point to be split at
