@@ -1,6 +1,6 @@
 -- What a line of an OPL file says: an item, or a cause why it can't be read.
 -- Here a line is cut at once into all its pieces; the code moves a place through the line.
-use Rattle.std.specs.Prelude.{ℕ, ℤ, List, [], ◌∷◌, Bool, ◌&&◌, ◌==◌, if◌then◌else◌, option_and_then, Option, Some, None}
+use Rattle.std.specs.Prelude.{◌≡◌, IsTrue, ℕ, ℤ, List, [], ◌∷◌, Bool, ◌&&◌, ◌==◌, if◌then◌else◌, option_and_then, Option, Some, None}
 use Rattle.std.specs.List.{slice_split}
 use Rattle.std.specs.Option.{option_map}
 use Rattle.osm_entity.specs.Entities.{EntityValue, place_fits}
@@ -61,10 +61,19 @@ plain_fields flow x y id = record {
   list = None;
 }
 
+-- the fields of such a node, where it has an id
+abbrev pub plain_of : Flow → List ℕ → List ℕ → Option ℤ → Option Fields
+plain_of flow x y id = option_map (plain_fields flow x y) id
+
+-- the content of a piece, where it begins with this letter
+abbrev pub content_of : ℕ → List ℕ → Option (List ℕ)
+content_of letter [] = None
+content_of letter (first ∷ rest) = if first == letter then Some rest else None
+
 -- the fields of three pieces: n and an id, x and a content, y and a content
 abbrev pub fields_of : Flow → List (List ℕ) → Option Fields
 fields_of flow ((n ∷ id) ∷ (x ∷ lon) ∷ (y ∷ lat) ∷ []) =
-    if n == 110 && x == 120 && y == 121 then option_map (plain_fields flow lon lat) (whole id) else None
+    if n == 110 && x == 120 && y == 121 then plain_of flow lon lat (whole id) else None
 fields_of flow parts = None
 
 -- a line of an entity file keeps its entity; of a change file, at version 0, it modifies it
@@ -85,17 +94,26 @@ plain_node id place = record {
   body = Node (Some place);
 }
 
+-- the item of a node with this id at this place
+abbrev pub plain_item : Flow → ℤ → Place → ItemValue
+plain_item flow id place = record { act = act_in flow; entity = plain_node id place }
+
 -- the item of an id and two numbers, where both are numbers within 180 and 90 degrees
 abbrev pub node_of : Flow → ℤ → Option ℤ → Option ℤ → Option ItemValue
 node_of flow id (Some lon) (Some lat) =
     if place_fits (record { lon = lon; lat = lat })
-    then Some (record { act = act_in flow; entity = plain_node id (record { lon = lon; lat = lat }) })
+    then Some (plain_item flow id (record { lon = lon; lat = lat }))
     else None
 node_of flow id lon lat = None
 
 -- the item that the fields say
 abbrev pub item_of : Fields → Option ItemValue
 item_of f = node_of f.flow f.id (option_and_then short f.x) (option_and_then short f.y)
+
+-- what the code keeps of a cut line: its fields say a plain node, at the place that was read from them
+pub record IsLine (f : Fields) (place : Place) : Type 0 where
+  pub says : item_of f ≡ Some (plain_item f.flow f.id place)
+  pub fits : IsTrue (place_fits place)
 
 -- what a line says where it says an item; every other line isn't read yet
 abbrev pub said_by : Option ItemValue → LineValue

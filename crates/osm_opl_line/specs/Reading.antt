@@ -1,6 +1,6 @@
 -- What an OPL file says: its items up to its first bad line, and how the reading ends.
 -- Here the whole file is cut at once at its newlines; the code goes from line to line.
-use Rattle.std.specs.Prelude.{ℕ, ◌+◌, List, [], ◌∷◌, length, Bool, true, false, ◌&&◌, ◌==◌, nat_lt, if◌then◌else◌}
+use Rattle.std.specs.Prelude.{ℕ, ◌+◌, List, [], ◌∷◌, ◌++◌, length, Bool, true, false, ◌&&◌, ◌==◌, nat_lt, if◌then◌else◌}
 use Rattle.std.specs.List.{slice_split}
 use Rattle.osm_entity.specs.Items.{ItemValue}
 use Rattle.osm_entity.specs.Streams.{Stream}
@@ -37,6 +37,10 @@ abbrev pub before : ℕ → LineValue → Reading → Reading
 before number Skipped reading = reading
 before number (Good item) reading = record { items = item ∷ reading.items; ending = reading.ending }
 before number (Bad cause) reading = record { items = []; ending = BadLine cause number }
+
+-- items before those of a reading
+abbrev pub after : List ItemValue → Reading → Reading
+after items reading = record { items = items ++ reading.items; ending = reading.ending }
 
 -- the reading of lines, the first of which has this number
 abbrev pub read_lines : Flow → Bool → ℕ → List (List ℕ) → Reading

@@ -37,3 +37,8 @@ line_text item =
 -- the file of a stream: the lines of its items, whatever its end
 abbrev pub opl_text : Stream → List ℕ
 opl_text s = flat_map line_text s.items
+
+-- a list of bytes begins with another
+pub record BeginsWith (front bytes : List ℕ) : Type 0 where
+  pub rest : List ℕ
+  pub joined : bytes ≡ front ++ rest

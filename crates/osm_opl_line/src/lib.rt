@@ -1,15 +1,17 @@
-//! Lines of OPL files, both ways.
+//! Lines of OPL files, both ways: the item of a line, and the line of an item.
+//!
+//! A line is cut into the fields that stand between its spaces, which are slices of it, and the
+//! fields say an item. The other way an item is appended as a line, all lines in one form. A file is
+//! read line by line up to its first bad one.
 #![tactic(auto)]
 
-ghost use Rattle.std.specs.Prelude.{◌≡◌, None, [], codes, pos, IfOk, true};
-ghost use Rattle.osm_opl_line.specs.Reading.{opl_reading, Reading};
-ghost use Rattle.osm_opl_line.specs.Writing.{opl_text};
-ghost use Rattle.osm_opl_line.specs.Line.{opl_line, Bad};
-ghost use Rattle.osm_entity.specs.declared.verdict.Cause.TheVariants.{NotBuilt};
-ghost use Rattle.osm_entity.specs.declared.kind.Flow.TheVariants.{Entities};
+mod cutting;
+mod making;
+mod reading;
+#[cfg(test)]
+mod tests;
+mod writing;
 
-use osm_entity::{Cause, Flow};
-
-pub fn nothing()
-    ensures { opl_line Entities (codes "x") ≡ Bad NotBuilt }
-{}
+pub use cutting::{Line, cut_line};
+pub use reading::{ReadEnding, ReadItems, read_lines_of};
+pub use writing::write_line;

@@ -1,0 +1,4 @@
+pub mod CuttingLemmas
+pub mod ReadBackLemmas
+pub mod ReadingLemmas
+pub mod WritingLemmas
