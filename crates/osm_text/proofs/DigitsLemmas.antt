@@ -16,6 +16,7 @@ use Rattle.osm_text.proofs.KeptLemmas.{kept_some}
 pub digits_test : IsDigitsTest (λ ds. list_all (λ c. is_digit c 10) ds ≡ true)
 digits_test = search rules
 
+-- and their value is std's value
 pub digits_model : IsNumeralModel (λ ds. list_all (λ c. is_digit c 10) ds ≡ true) (digits_value 10)
 digits_model = numerals_by_value _ digits_test
 
@@ -32,7 +33,7 @@ digits-more bytes i digit next within is before added =
       rw (list_all_more (λ c. is_digit c 10) bytes i 0 within) (and_from _ _ before kept.1),
     )
 
--- the same with the test on digits as a parameter
+-- at most 18 digits are no number that is too large, by whether they are digits
 short_digits_at : (digits : Bool) (most : ℕ) (bytes : List ℕ) → length bytes ≤ most →
     (digits ≡ true → digits_value 10 bytes < 10 ^ 18) →
     (if nat_lt 0 (length bytes) && nat_le (length bytes) (length bytes) && digits
@@ -52,7 +53,7 @@ short_digits most bytes within small =
     short_digits_at (list_all (λ c. is_digit c 10) bytes) most bytes within
     (λ digits. digits_value_short digits_model bytes 18 digits (omega arith))
 
--- what is_digits says of each byte
+-- one to so many digits are digits throughout
 pub list_all-are_digits : (most : ℕ) (bytes : List ℕ) → are_digits most bytes ≡ true → list_all (λ c. is_digit c 10) bytes ≡ true
 list_all-are_digits most bytes digits =
     (and_parts (nat_lt 0 (length bytes) && nat_le (length bytes) most) (list_all (λ c. is_digit c 10) bytes) digits).1

@@ -29,6 +29,7 @@ decimal-digits n small = digits_decimal digits_model n small
 decimal-value : (n : ℕ) → n < 2 ^ 64 → digits_value 10 (decimal n) ≡ n
 decimal-value n small = digits_value-decimal digits_model n small
 
+-- one to so many digits are digits
 are_digits-from : (most : ℕ) (bytes : List ℕ) → 0 < length bytes → length bytes ≤ most →
     list_all (λ c. is_digit c 10) bytes ≡ true → are_digits most bytes ≡ true
 are_digits-from most bytes some within digits = rw (lt-ltb 0 (length bytes) some, le-leb (length bytes) most within, digits)
@@ -45,11 +46,13 @@ digits-no_minus (c ∷ cs) rest some each =
     let first : is_digit c 10 ≡ true = (and_parts (is_digit c 10) (list_all (λ c. is_digit c 10) cs) each).0 in
     digit-no_minus c first
 
+-- a whole number from its sign and its digits
 whole-at : (minus : Bool) (bytes digits : List ℕ) (n : ℕ) → has_minus bytes ≡ minus → unsigned_part bytes ≡ digits →
     are_digits (length bytes) digits ≡ true → digits_value 10 digits ≡ n → size_fits minus n ≡ true →
     whole bytes ≡ Some (signed minus n)
 whole-at minus bytes digits n sign rest are value fits = rw (rest, are, sign, value, fits)
 
+-- the text of a whole number reads back
 pub whole-signed_decimal : (z : ℤ) → FitsSigned w64 z → whole (signed_decimal z) ≡ Some z
 whole-signed_decimal (pos n) fits =
     let small : n < 2 ^ 63 = fits.sfits in
@@ -80,6 +83,7 @@ list_all-zeros : (count : ℕ) → list_all (λ c. is_digit c 10) (replicate cou
 list_all-zeros zero = refl
 list_all-zeros (suc count) = list_all-zeros count
 
+-- nine digits are digits
 list_all-nine : (n : ℕ) → n < 10 ^ 9 → list_all (λ c. is_digit c 10) (nine_digits n) ≡ true
 list_all-nine n small =
     rw (
@@ -96,6 +100,7 @@ suffix-zero digits k within =
     let below : k < length digits = omega arith in
     eqb-true _ 48 (rw (get_or-reverse digits k 0 below) at passes)
 
+-- a factor of ten moves from a value to its scale
 scaled : (value scale : ℕ) → value * 10 * scale ≡ value * (scale * 10)
 scaled value scale = omega arith
 
@@ -143,6 +148,7 @@ some-from_value : (digits : List ℕ) (scale n : ℕ) → digits_value 10 digits
 some-from_value [] scale n is some = absurd (omega arith)
 some-from_value (c ∷ cs) scale n is some = omega arith
 
+-- the digits of a fraction above 0, without the zeros at their end, are one to nine digits
 trimmed-digits : (n : ℕ) → 0 < n → n < 10 ^ 9 → are_digits 9 (trimmed (nine_digits n)) ≡ true
 trimmed-digits n some small =
     let kept = length-trimmed n small in
@@ -157,6 +163,7 @@ degrees-digits n low =
     are_digits-from 3 (decimal n) (decimal_nonempty n (omega arith))
     (length-decimal-le 3 n (omega arith) low (omega arith)) (decimal-digits n (omega arith))
 
+-- the parts of whole degrees and the digits after a point
 short_parts-pointed : (minus : Bool) (n rest : ℕ) (after : List ℕ) → n < 10 ^ 3 → are_digits 9 after ≡ true →
     digits_value 10 after * 10 ^ (9 - length after) ≡ rest →
     short_parts minus (slice_split (λ b. b == 46) (decimal n ++ 46 ∷ after)) ≡ Some (signed minus (n * 10 ^ 9 + rest))
@@ -184,10 +191,12 @@ short_parts-written minus n (suc k) low small =
     (short_parts-pointed minus n (suc k) (trimmed (nine_digits (suc k))) low (trimmed-digits (suc k) (omega arith) small)
     (trimmed-value (suc k) small))
 
+-- a short number from its sign and its parts
 short-at : (minus : Bool) (bytes body : List ℕ) (n : ℕ) → has_minus bytes ≡ minus → unsigned_part bytes ≡ body →
     short_parts minus (slice_split (λ b. b == 46) body) ≡ Some (signed minus n) → short bytes ≡ Some (signed minus n)
 short-at minus bytes body n sign rest parts = rw (rest, sign) parts
 
+-- the text of nanodegrees below 1,000 degrees reads back
 pub short-nano_text : (z : ℤ) → nat_abs z < 10 ^ 12 → short (nano_text z) ≡ Some z
 short-nano_text (pos n) small =
     let sum : n / 10 ^ 9 * 10 ^ 9 + n % 10 ^ 9 ≡ n = omega arith in

@@ -23,6 +23,7 @@ split-digits most bytes digits =
     (λ k d below. digit-no_point (get_or bytes k d)
     (AllPass-from_list_all (λ c. is_digit c 10) bytes (list_all-are_digits most bytes digits) k d below))
 
+-- two parts around a point, or more than two where the second has a point itself
 short_parts-at : (minus : Bool) (before after : List ℕ) (parts : List (List ℕ)) → slice_split (λ b. b == 46) after ≡ parts →
     short_parts minus (before ∷ parts) ≡
     (if are_digits 3 before && are_digits 9 after then Some (signed minus (nanos before after)) else None)
