@@ -25,7 +25,8 @@ pub digits-more : (bytes : List ℕ) (i digit next : ℕ) → i < length bytes �
     Some digit ≡ (if is_digit (get_or bytes i 0) 10 then Some (digit_value (get_or bytes i 0)) else None) →
     list_all (λ c. is_digit c 10) (take i bytes) ≡ true →
     next ≡ min (digits_value 10 (take i bytes) * 10 + digit) (2 ^ 63 + 1) →
-    (next ≡ min (digits_value 10 (take (i + 1) bytes)) (2 ^ 63 + 1)) × (list_all (λ c. is_digit c 10) (take (i + 1) bytes) ≡ true)
+    (next ≡ min (digits_value 10 (take (i + 1) bytes)) (2 ^ 63 + 1)) ×
+    (list_all (λ c. is_digit c 10) (take (i + 1) bytes) ≡ true)
 digits-more bytes i digit next within is before added =
     let kept = kept_some (is_digit (get_or bytes i 0) 10) (digit_value (get_or bytes i 0)) digit is in
     let value = digits_value_more 10 bytes i within in (
@@ -54,7 +55,8 @@ short_digits most bytes within small =
     (λ digits. digits_value_short digits_model bytes 18 digits (omega arith))
 
 -- one to so many digits are digits throughout
-pub list_all-are_digits : (most : ℕ) (bytes : List ℕ) → are_digits most bytes ≡ true → list_all (λ c. is_digit c 10) bytes ≡ true
+pub list_all-are_digits : (most : ℕ) (bytes : List ℕ) → are_digits most bytes ≡ true →
+    list_all (λ c. is_digit c 10) bytes ≡ true
 list_all-are_digits most bytes digits =
     (and_parts (nat_lt 0 (length bytes) && nat_le (length bytes) most) (list_all (λ c. is_digit c 10) bytes) digits).1
 

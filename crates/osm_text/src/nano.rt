@@ -40,7 +40,8 @@ fn scaled(fraction: u64, places: usize) -> u64
 /// The nanodegrees of the digits before and after a point.
 fn nanos_of(before: &[u8], after: &[u8]) -> Option<u64>
     ensures value { result ≡ (
-        if are_digits 3 before.now && are_digits 9 after.now then Some (nanos before.now after.now) else None) }
+        if are_digits 3 before.now && are_digits 9 after.now
+        then Some (nanos before.now after.now) else None) }
     ensures size { IfSome result (λ n. n < 2 ^ 63) }
 {
     let degrees = read_digits(before, 3)?;
