@@ -1,6 +1,6 @@
 -- The pieces of a line of texts without spaces, and the node that it says.
 use Rattle.std.proofs.Common.{◌≡◌, inl, inr, suc, ℕ, ℤ, pos, negsuc, ◌+◌, ◌-◌, ◌/◌, ◌%◌, ◌^◌, ◌<◌, ◌≤◌, List, [], ◌∷◌, ◌++◌, length, take, replicate, Some, None, Option, Bool, true, false, nat_abs, arith, sym, refl, ap, subst, append_assoc}
-use Rattle.std.specs.Prelude.{◌==◌, All, decimal, int_lt, codes, if◌then◌else◌}
+use Rattle.std.specs.Prelude.{◌==◌, All, decimal, int_lt, codes, if◌then◌else◌, nat_le, FitsSigned, ◌*◌}
 use Rattle.std.specs.Fmt.{signed_decimal}
 use Rattle.std.specs.List.{slice_split}
 use Rattle.std.specs.Option.{option_and_then}
@@ -12,12 +12,17 @@ use Rattle.std.proofs.lemmas.Fmt.{digits_decimal}
 use Rattle.std.proofs.lemmas.List.Elements.{All-nil, All-cons, All-append, All-take, All-replicate}
 use Rattle.std.proofs.lemmas.List.Splits.{slice_split_at, slice_split_none}
 use Rattle.std.proofs.lemmas.Str.Parse.{IsNumeralModel}
-use Rattle.osm_entity.specs.Entities.{place_fits}
+use Rattle.std.proofs.lemmas.Bool.{leb-true}
+use Rattle.std.proofs.lemmas.Int.{ints}
+use Rattle.std.specs.Cmp.{first_so, second_so}
+use Rattle.std.specs.Int.{w64}
+use Rattle.osm_entity.specs.Entities.{place_fits, degree}
 use Rattle.osm_entity.specs.Items.{ItemValue}
 use Rattle.osm_entity.specs.declared.kind.Flow.{Flow}
 use Rattle.osm_entity.specs.declared.kind.Flow.TheVariants.{Entities}
 use Rattle.osm_entity.specs.declared.parts.Place.{Place}
 use Rattle.osm_text.specs.Numbers.{whole, short, nano_text, fraction_text, nine_digits, trimmed}
+use Rattle.osm_opl_line.specs.Writing.{place_text}
 use Rattle.osm_opl_line.specs.Line.{LineValue, Good, pieces, plain_item, plain_of, plain_fields, node_of, item_of, fields_of, said_by, opl_line}
 
 -- a byte is no space
@@ -94,3 +99,29 @@ opl_line-read_back id place id_text lon_text lat_text one two three is_id is_lon
     (subst (λ o. said_by (node_of Entities id (Some place.lon) o) ≡ Good (plain_item Entities id place)) (sym is_lat)
     (subst (λ b. said_by (if b then Some (plain_item Entities id place) else None) ≡ Good (plain_item Entities id place))
     (sym fits) refl))))
+
+-- a place within range has coordinates of at most 180 and 90 degrees
+lon-small : (place : Place) → place_fits place ≡ true → nat_abs place.lon < 10 ^ 12
+lon-small place fits =
+    omega (arith, leb-true (nat_abs place.lon) (180 * degree)
+    (first_so (nat_le (nat_abs place.lon) (180 * degree)) (nat_le (nat_abs place.lat) (90 * degree)) fits))
+
+lat-small : (place : Place) → place_fits place ≡ true → nat_abs place.lat < 10 ^ 12
+lat-small place fits =
+    omega (arith, leb-true (nat_abs place.lat) (90 * degree)
+    (second_so (nat_le (nat_abs place.lon) (180 * degree)) (nat_le (nat_abs place.lat) (90 * degree)) fits))
+
+-- the line of an id and a place says that node, where written numbers read back
+pub opl_line-plain : ((z : ℤ) → FitsSigned w64 z → whole (signed_decimal z) ≡ Some z) →
+    ((z : ℤ) → nat_abs z < 10 ^ 12 → short (nano_text z) ≡ Some z) → (id : ℤ) (place : Place) → FitsSigned w64 id →
+    place_fits place ≡ true →
+    opl_line Entities (codes "n" ++ signed_decimal id ++ place_text place) ≡ Good (plain_item Entities id place)
+opl_line-plain whole_back short_back id place id_fits fits =
+    let lon : nat_abs place.lon < 10 ^ 12 = lon-small place fits in
+    let lat : nat_abs place.lat < 10 ^ 12 = lat-small place fits in
+    subst (λ line. opl_line Entities line ≡ Good (plain_item Entities id place))
+    (sym (line_text-joined (signed_decimal id) (nano_text place.lon) (nano_text place.lat)))
+    (opl_line-read_back id place (signed_decimal id) (nano_text place.lon) (nano_text place.lat)
+    (signed_decimal-no_space id (omega (arith, ints)))
+    (nano_text-no_space place.lon (omega arith)) (nano_text-no_space place.lat (omega arith))
+    (whole_back id id_fits) (short_back place.lon lon) (short_back place.lat lat) fits)

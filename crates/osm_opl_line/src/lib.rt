@@ -6,6 +6,7 @@
 #![tactic(auto)]
 
 mod cutting;
+mod laws;
 mod making;
 mod reading;
 #[cfg(test)]
@@ -13,5 +14,6 @@ mod tests;
 mod writing;
 
 pub use cutting::{Line, cut_line};
+pub use laws::plain_lines_read_back;
 pub use reading::{ReadEnding, ReadItems, read_lines_of};
 pub use writing::write_line;
