@@ -1,12 +1,11 @@
 -- The pieces of a line of texts without spaces, and the node that it says.
-use Rattle.std.proofs.Common.{◌≡◌, inl, inr, suc, ℕ, ℤ, pos, negsuc, ◌+◌, ◌-◌, ◌/◌, ◌%◌, ◌^◌, ◌<◌, ◌≤◌, List, [], ◌∷◌, ◌++◌, length, take, replicate, Some, None, Option, Bool, true, false, nat_abs, arith, sym, refl, ap, subst, append_assoc}
+use Rattle.std.proofs.Common.{◌≡◌, inl, inr, suc, ℕ, ℤ, pos, negsuc, ◌-◌, ◌/◌, ◌%◌, ◌^◌, ◌<◌, List, [], ◌∷◌, ◌++◌, length, replicate, Some, None, true, false, nat_abs, arith, sym, refl, subst, append_assoc}
 use Rattle.std.specs.Prelude.{◌==◌, All, decimal, int_lt, codes, if◌then◌else◌, nat_le, FitsSigned, ◌*◌}
 use Rattle.std.specs.Fmt.{signed_decimal}
-use Rattle.std.specs.List.{slice_split}
 use Rattle.std.specs.Option.{option_and_then}
 use Rattle.std.specs.Str.Parse.{AllDigits, digits_value}
 use Rattle.std.specs.Char.{digit_value}
-use Rattle.std.proofs.lemmas.Bool.{cond_both, eqb-true}
+use Rattle.std.proofs.lemmas.Bool.{cond_both}
 use Rattle.std.proofs.lemmas.Bool.Decides.{eqb_tells}
 use Rattle.std.proofs.lemmas.Fmt.{digits_decimal}
 use Rattle.std.proofs.lemmas.List.Elements.{All-nil, All-cons, All-append, All-take, All-replicate}
@@ -17,13 +16,11 @@ use Rattle.std.proofs.lemmas.Int.{ints}
 use Rattle.std.specs.Cmp.{first_so, second_so}
 use Rattle.std.specs.Int.{w64}
 use Rattle.osm_entity.specs.Entities.{place_fits, degree}
-use Rattle.osm_entity.specs.Items.{ItemValue}
-use Rattle.osm_entity.specs.declared.kind.Flow.{Flow}
 use Rattle.osm_entity.specs.declared.kind.Flow.TheVariants.{Entities}
 use Rattle.osm_entity.specs.declared.parts.Place.{Place}
 use Rattle.osm_text.specs.Numbers.{whole, short, nano_text, fraction_text, nine_digits, trimmed}
 use Rattle.osm_opl_line.specs.Writing.{place_text}
-use Rattle.osm_opl_line.specs.Line.{LineValue, Good, pieces, plain_item, plain_of, plain_fields, node_of, item_of, fields_of, said_by, opl_line}
+use Rattle.osm_opl_line.specs.Line.{Good, pieces, plain_item, plain_of, node_of, item_of, fields_of, said_by, opl_line}
 
 -- a byte is no space
 abbrev IsNoSpace : ℕ → Type 0
@@ -103,13 +100,19 @@ opl_line-read_back id place id_text lon_text lat_text one two three is_id is_lon
 -- a place within range has coordinates of at most 180 and 90 degrees
 lon-small : (place : Place) → place_fits place ≡ true → nat_abs place.lon < 10 ^ 12
 lon-small place fits =
-    omega (arith, leb-true (nat_abs place.lon) (180 * degree)
-    (first_so (nat_le (nat_abs place.lon) (180 * degree)) (nat_le (nat_abs place.lat) (90 * degree)) fits))
+    omega (
+      arith,
+      leb-true (nat_abs place.lon) (180 * degree)
+          (first_so (nat_le (nat_abs place.lon) (180 * degree)) (nat_le (nat_abs place.lat) (90 * degree)) fits),
+    )
 
 lat-small : (place : Place) → place_fits place ≡ true → nat_abs place.lat < 10 ^ 12
 lat-small place fits =
-    omega (arith, leb-true (nat_abs place.lat) (90 * degree)
-    (second_so (nat_le (nat_abs place.lon) (180 * degree)) (nat_le (nat_abs place.lat) (90 * degree)) fits))
+    omega (
+      arith,
+      leb-true (nat_abs place.lat) (90 * degree)
+          (second_so (nat_le (nat_abs place.lon) (180 * degree)) (nat_le (nat_abs place.lat) (90 * degree)) fits),
+    )
 
 -- the line of an id and a place says that node, where written numbers read back
 pub opl_line-plain : ((z : ℤ) → FitsSigned w64 z → whole (signed_decimal z) ≡ Some z) →

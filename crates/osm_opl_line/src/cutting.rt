@@ -38,14 +38,15 @@ pub struct Line<'a> {
 }
 
 impl<'a> Model for Line<'a> {
-    ghost use Rattle.std.specs.Option.{option_map};
-    ghost use Rattle.osm_opl_line.specs.Line.{Fields, IsLine};
+    ghost use Rattle.osm_opl_line.specs.Line.{Fields};
 
     ghost Value = { Fields };
 
-    ghost view = { λ l. record { flow = l.flow; kind = l.kind; id = l.id; v = option_map (λ s. s.now) l.v; d = option_map (λ s. s.now) l.d; c = option_map (λ s. s.now) l.c; t = option_map (λ s. s.now) l.t; i = option_map (λ s. s.now) l.i; u = option_map (λ s. s.now) l.u; tags = option_map (λ s. s.now) l.tags; x = option_map (λ s. s.now) l.x; y = option_map (λ s. s.now) l.y; list = option_map (λ s. s.now) l.list } };
+    ghost use Rattle.osm_opl_line.specs.Cut.{fields_seen, IsCut};
 
-    ghost invariant = { λ l. IsLine (record { flow = l.flow; kind = l.kind; id = l.id; v = option_map (λ s. s.now) l.v; d = option_map (λ s. s.now) l.d; c = option_map (λ s. s.now) l.c; t = option_map (λ s. s.now) l.t; i = option_map (λ s. s.now) l.i; u = option_map (λ s. s.now) l.u; tags = option_map (λ s. s.now) l.tags; x = option_map (λ s. s.now) l.x; y = option_map (λ s. s.now) l.y; list = option_map (λ s. s.now) l.list }) l.place };
+    ghost view = { fields_seen };
+
+    ghost invariant = { IsCut };
 }
 
 /// Cuts a line of an OPL file of this flow into its fields, which are slices of the line.
