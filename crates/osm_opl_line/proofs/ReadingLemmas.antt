@@ -17,6 +17,7 @@ use Rattle.osm_opl_line.specs.Reading.{Reading, Ending, BadLine, lines_of, befor
 use Rattle.osm_opl_line.specs.Writing.{IsPlain}
 use Rattle.osm_opl_line.proofs.CuttingLemmas.{slice_split-nonempty}
 
+-- these items, and this ending
 abbrev reading_of : List ItemValue → Ending → Reading
 reading_of items ending = record { items = items; ending = ending }
 
