@@ -1,5 +1,5 @@
 -- The pieces of a line of texts without spaces, and the node that it says.
-use Rattle.std.proofs.Common.{◌≡◌, inl, inr, suc, ℕ, ℤ, pos, negsuc, ◌-◌, ◌/◌, ◌%◌, ◌^◌, ◌<◌, List, [], ◌∷◌, ◌++◌, length, replicate, Some, None, true, false, nat_abs, arith, sym, refl, subst, append_assoc}
+use Rattle.std.proofs.Common.{◌≡◌, inl, inr, suc, ℕ, ℤ, pos, negsuc, ◌-◌, ◌/◌, ◌%◌, ◌^◌, ◌<◌, List, [], ◌∷◌, ◌++◌, length, replicate, Some, None, true, false, nat_abs, arith, sym, refl, ap, subst, append_assoc}
 use Rattle.std.specs.Prelude.{◌==◌, All, decimal, int_lt, codes, if◌then◌else◌, nat_le, FitsSigned, ◌*◌}
 use Rattle.std.specs.Fmt.{signed_decimal}
 use Rattle.std.specs.Option.{option_and_then}
@@ -30,14 +30,20 @@ IsNoSpace b = (b == 32) ≡ false
 abbrev HasNoSpace : List ℕ → Type 0
 HasNoSpace bytes = All IsNoSpace bytes
 
+-- a digit is no space
 digit-no_space : (c : ℕ) → digit_value c < 10 → (c == 32) ≡ false
 digit-no_space c small =
-    elim (eqb_tells c 32) [ inl same ↦ absurd (omega (arith, subst (λ d. digit_value d < 10) same.1 small)) | inr differs ↦ differs.0 ]
+    elim (eqb_tells c 32) [
+      | inl same ↦ absurd (omega (arith, subst (λ d. digit_value d < 10) same.1 small))
+      | inr differs ↦ differs.0
+    ]
 
+-- digits have no space
 digits-no_space : (ds : List ℕ) → AllDigits 10 ds → HasNoSpace ds
 digits-no_space [] digits = All-nil IsNoSpace
 digits-no_space (c ∷ cs) digits = All-cons IsNoSpace c cs (digit-no_space c digits.0) (digits-no_space cs digits.1)
 
+-- a number's text has no space, whether whole, signed, a fraction, or of nanodegrees
 decimal-no_space : (n : ℕ) → n < 2 ^ 64 → HasNoSpace (decimal n)
 decimal-no_space n fits =
     let own : IsNumeralModel (AllDigits 10) (digits_value 10) =
@@ -85,17 +91,19 @@ line_text-joined id lon lat = simp append_assoc
 pub opl_line-read_back : (id : ℤ) (place : Place) (id_text lon_text lat_text : List ℕ) → HasNoSpace id_text →
     HasNoSpace lon_text → HasNoSpace lat_text → whole id_text ≡ Some id → short lon_text ≡ Some place.lon →
     short lat_text ≡ Some place.lat → place_fits place ≡ true →
-    opl_line Entities ((110 ∷ id_text) ++ 32 ∷ ((120 ∷ lon_text) ++ 32 ∷ (121 ∷ lat_text))) ≡ Good (plain_item Entities id place)
+    opl_line Entities ((110 ∷ id_text) ++ 32 ∷ ((120 ∷ lon_text) ++ 32 ∷ (121 ∷ lat_text)))
+    ≡ Good (plain_item Entities id place)
 opl_line-read_back id place id_text lon_text lat_text one two three is_id is_lon is_lat fits =
     subst (λ parts. said_by (option_and_then item_of (fields_of Entities parts)) ≡ Good (plain_item Entities id place))
     (sym (pieces-joined (110 ∷ id_text) (120 ∷ lon_text) (121 ∷ lat_text) (All-cons IsNoSpace 110 id_text refl one)
     (All-cons IsNoSpace 120 lon_text refl two) (All-cons IsNoSpace 121 lat_text refl three)))
-    (subst (λ o. said_by (option_and_then item_of (plain_of Entities lon_text lat_text o)) ≡ Good (plain_item Entities id place))
+    (subst
+    (λ o. said_by (option_and_then item_of (plain_of Entities lon_text lat_text o))
+    ≡ Good (plain_item Entities id place))
     (sym is_id)
     (subst (λ o. said_by (node_of Entities id o (short lat_text)) ≡ Good (plain_item Entities id place)) (sym is_lon)
     (subst (λ o. said_by (node_of Entities id (Some place.lon) o) ≡ Good (plain_item Entities id place)) (sym is_lat)
-    (subst (λ b. said_by (if b then Some (plain_item Entities id place) else None) ≡ Good (plain_item Entities id place))
-    (sym fits) refl))))
+    (ap (λ b. said_by (if b then Some (plain_item Entities id place) else None)) fits))))
 
 -- a place within range has coordinates of at most 180 and 90 degrees
 lon-small : (place : Place) → place_fits place ≡ true → nat_abs place.lon < 10 ^ 12

@@ -103,7 +103,8 @@ fn line_of<'a>(flow: Flow, id: &[u8], x: &'a [u8], y: &'a [u8]) -> Option<Line<'
     ensures some { IfSome result (λ l. plain_of flow x.now y.now (whole id.now) ≡ Some l) }
     ensures good { IfSome result (λ l. IsSome (item_of l)) }
     ensures none { IfNone result
-        (said_by (option_and_then item_of (plain_of flow x.now y.now (whole id.now))) ≡ Bad NotBuilt) }
+        (said_by (option_and_then item_of (plain_of flow x.now y.now (whole id.now)))
+        ≡ Bad NotBuilt) }
 {
     let place = read_place(x, y)?;
     match read_whole(id) {

@@ -99,7 +99,8 @@ fn take_line(
     flow: Flow,
 ) -> Result<Option<Cause>, NoMemory>
     ensures none { IfOk result (λ bad. IfNone bad ((number : ℕ) (reading : Reading) →
-        after items.old (before number (opl_line flow line.now) reading) ≡ after items.new reading)) }
+        after items.old (before number (opl_line flow line.now) reading)
+        ≡ after items.new reading)) }
     ensures some { IfOk result (λ bad. IfSome bad (λ cause. opl_line flow line.now ≡ Bad cause)) }
     ensures same { IfOk result (λ bad. OnSome bad (items.new ≡ items.old)) }
 {
