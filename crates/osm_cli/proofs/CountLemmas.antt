@@ -37,7 +37,7 @@ same_op o op same = sym (op_of-op_number o) ∙ ap op_of same ∙ op_of-op_numbe
 pub bytes_eq-self : (n : List ℕ) → bytes_eq n n ≡ true
 bytes_eq-self n = (bytes_eq-Decides n n).1 refl
 
-is_at-self : (op : Op) (name : List ℕ) → is_at op name op name ≡ true
+pub is_at-self : (op : Op) (name : List ℕ) → is_at op name op name ≡ true
 is_at-self Open name = bytes_eq-self name
 is_at-self Make name = bytes_eq-self name
 is_at-self Pull name = bytes_eq-self name
@@ -129,13 +129,13 @@ counts_after a b bytes clean unpulled unput unkept c0 c2 c3 c4 pulls puts kept o
     counts.others Make n refl refl ∙ adds Make n ∙ opened Make n
 counts_after a b bytes clean unpulled unput unkept c0 c2 c3 c4 pulls puts kept opened pulled adds put counts keep Pull n =
     raised_by unpulled (bytes_eq n a) (c0 Pull n) pulls (c4 Pull n) pulled
-      (counts.others Pull n refl refl ∙ adds Pull n ∙ ap (λ c. cond (bytes_eq n a) (raised c pulls) c) (opened Pull n))
+    (counts.others Pull n refl refl ∙ adds Pull n ∙ ap (λ c. cond (bytes_eq n a) (raised c pulls) c) (opened Pull n))
 counts_after a b bytes clean unpulled unput unkept c0 c2 c3 c4 pulls puts kept opened pulled adds put counts keep Put n =
     raised_by unput (bytes_eq n b) (c0 Put n) puts (c4 Put n) put
-      (puts_after b puts c3 c4 kept n (bytes_eq n b) refl counts ∙ ap (λ c. cond (bytes_eq n b) (raised c puts) c) (adds Put n ∙ opened Put n))
+    (puts_after b puts c3 c4 kept n (bytes_eq n b) refl counts ∙ ap (λ c. cond (bytes_eq n b) (raised c puts) c) (adds Put n ∙ opened Put n))
 counts_after a b bytes clean unpulled unput unkept c0 c2 c3 c4 pulls puts kept opened pulled adds put counts keep Keep n =
     subst (λ c. CountsBy ((unkept && bytes_eq n b) || false) c (c4 Keep n)) (adds Keep n ∙ opened Keep n)
-      (keeps_after b puts c3 c4 kept unkept n (bytes_eq n b) refl keep counts)
+    (keeps_after b puts c3 c4 kept unkept n (bytes_eq n b) refl keep counts)
 
 -- what the files of a copy gave after its tasks ran
 gave_by : (at : Bool) (before more now : ℕ) → now ≡ cond at (raised before more) before → now ≡ raised before (0 + cond at more 0 + 0)
@@ -145,7 +145,7 @@ gave_by false before more now is = is ∙ omega arith
 pub gave_after : (a b bytes : List ℕ) (clean unpulled unput unkept : Bool) (g0 g2 g3 g4 : List ℕ → ℕ) (given : ℕ) → ((n : List ℕ) → g2 n ≡ g0 n) → given ≡ length bytes → GaveOnly a given g2 g3 → ((n : List ℕ) → g4 n ≡ g3 n) → (n : List ℕ) → g4 n ≡ raised (g0 n) (0 + cond (bytes_eq n a) (length bytes) 0 + 0)
 gave_after a b bytes clean unpulled unput unkept g0 g2 g3 g4 given opened count closed kept n =
     gave_by (bytes_eq n a) (g0 n) (length bytes) (g4 n)
-      (kept n ∙ closed n ∙ ap (λ k. cond (bytes_eq n a) (raised (g2 n) k) (g2 n)) count ∙ ap (λ g. cond (bytes_eq n a) (raised g (length bytes)) g) (opened n))
+    (kept n ∙ closed n ∙ ap (λ k. cond (bytes_eq n a) (raised (g2 n) k) (g2 n)) count ∙ ap (λ g. cond (bytes_eq n a) (raised g (length bytes)) g) (opened n))
 
 -- another name is another place
 pub is_at-other : (op : Op) (name : List ℕ) (o : Op) (n : List ℕ) → bytes_eq n name ≡ false → is_at op name o n ≡ false
@@ -167,7 +167,7 @@ refusal_later (Err Memory) before now is = omega (arith, is)
 keep_later : {T : Type 0} (name : List ℕ) (faults : ℕ) (before now : Counts) (kept : Result T HostError) → KeepCounts name faults before now kept → (o : Op) (n : List ℕ) → before o n ≤ now o n
 keep_later name faults before now kept counts =
     by_place Keep name (λ o n. before o n ≤ now o n) (refusal_later kept (before Keep name) (now Keep name) counts.kept)
-      (λ o n not_keep. place_cases Put name (λ o n. before o n ≤ now o n) o n (is_at Put name o n) refl (omega (arith, counts.puts)) (λ not_put. omega (arith, counts.others o n not_keep not_put)))
+    (λ o n not_keep. place_cases Put name (λ o n. before o n ≤ now o n) o n (is_at Put name o n) refl (omega (arith, counts.puts)) (λ not_put. omega (arith, counts.others o n not_keep not_put)))
 
 -- no count falls in a copy
 pub counts_later : {T : Type 0} (a b : List ℕ) (c0 c2 c3 c4 : Counts) (pulls puts : ℕ) (kept : Result T HostError) → ((o : Op) (n : List ℕ) → c2 o n ≡ c0 o n) → Adds Pull a pulls c2 c3 → KeepCounts b puts c3 c4 kept → (o : Op) (n : List ℕ) → c0 o n ≤ c4 o n
@@ -178,6 +178,6 @@ counts_later a b c0 c2 c3 c4 pulls puts kept opened adds counts o n =
 pub counts_elsewhere : {T : Type 0} (a b : List ℕ) (c0 c2 c3 c4 : Counts) (pulls puts : ℕ) (kept : Result T HostError) → ((o : Op) (n : List ℕ) → c2 o n ≡ c0 o n) → Adds Pull a pulls c2 c3 → KeepCounts b puts c3 c4 kept → (o : Op) (n : List ℕ) → bytes_eq n a ≡ false → bytes_eq n b ≡ false → c4 o n ≡ c0 o n
 counts_elsewhere a b c0 c2 c3 c4 pulls puts kept opened adds counts o n not_a not_b =
     counts.others o n (is_at-other Keep b o n not_b) (is_at-other Put b o n not_b)
-      ∙ adds o n
-      ∙ ap (λ at. cond at (raised (c2 o n) pulls) (c2 o n)) (is_at-other Pull a o n not_a)
-      ∙ opened o n
+    ∙ adds o n
+    ∙ ap (λ at. cond at (raised (c2 o n) pulls) (c2 o n)) (is_at-other Pull a o n not_a)
+    ∙ opened o n

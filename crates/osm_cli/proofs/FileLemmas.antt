@@ -84,19 +84,25 @@ taken_is_told bytes false taken took = (bytes, took)
 
 -- a keep that answered its value, where files are told
 kept_ok : (m : Files) (name bytes : List ℕ) (unput : Bool) (taken : Option (List ℕ)) (after : Option Files) → TakenBy unput bytes (Some []) taken → (kept : List ℕ) → taken ≡ Some kept → after ≡ set_file name kept (Some (finite.insert m name [])) → WhereTold (Some m) after (KeptFiles bytes name unput false)
-kept_ok m name bytes unput taken after took kept is told =
-    (finite.insert (finite.insert m name []) name kept, told, record {
-      own = own_file (finite.insert m name []) name bytes unput taken took kept is;
-      others = λ n other. get-set_other (finite.insert m name []) name kept n (one_name name n other) ∙ get-set_other m name [] n (one_name name n other);
-    })
+kept_ok m name bytes unput taken after took kept is told = (
+  finite.insert (finite.insert m name []) name kept,
+  told,
+  record {
+    own = own_file (finite.insert m name []) name bytes unput taken took kept is;
+    others = λ n other. get-set_other (finite.insert m name []) name kept n (one_name name n other) ∙ get-set_other m name [] n (one_name name n other);
+  },
+)
 
 -- a keep that failed, where files are told
 kept_failed : (m : Files) (name bytes : List ℕ) (unput : Bool) (after : Option Files) → SameBut name (Some (finite.insert m name [])) after → WhereTold (Some m) after (KeptFiles bytes name unput true)
-kept_failed m name bytes unput after same =
-    (same.0, same.1, record {
-      own = any_file unput;
-      others = λ n other. same.2 n (one_name name n other) ∙ get-set_other m name [] n (one_name name n other);
-    }) where
+kept_failed m name bytes unput after same = (
+  same.0,
+  same.1,
+  record {
+    own = any_file unput;
+    others = λ n other. same.2 n (one_name name n other) ∙ get-set_other m name [] n (one_name name n other);
+  },
+) where
   any_file : (unput : Bool) → IsFileOf bytes unput true (finite.get same.0 name)
   any_file true = tt
   any_file false = tt
@@ -115,9 +121,11 @@ files_after_keep (Some m) f2 f3 f4 name bytes unput empty taken (Err Memory) mad
     absurd (no_memory refl)
 
 others_of_set : (m : Files) (name bytes : List ℕ) (after : Option Files) → after ≡ set_file name bytes (Some (finite.insert m name [])) → WhereTold (Some m) after (OthersStay (name ∷ []))
-others_of_set m name bytes after is =
-    (finite.insert (finite.insert m name []) name bytes, is,
-    λ n other. get-set_other (finite.insert m name []) name bytes n (one_name name n other) ∙ get-set_other m name [] n (one_name name n other))
+others_of_set m name bytes after is = (
+  finite.insert (finite.insert m name []) name bytes,
+  is,
+  λ n other. get-set_other (finite.insert m name []) name bytes n (one_name name n other) ∙ get-set_other m name [] n (one_name name n other),
+)
 
 others_of_same : (m : Files) (name : List ℕ) (after : Option Files) → SameBut name (Some (finite.insert m name [])) after → WhereTold (Some m) after (OthersStay (name ∷ []))
 others_of_same m name after same =

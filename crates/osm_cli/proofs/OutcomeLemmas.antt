@@ -77,59 +77,65 @@ memory_before a b before after status ends files counts gave keeps known = recor
 pub unchanged_at_memory : (a b : List ℕ) (moment : Moment) (status : Status) → status.fault ≡ Memory → status.ends ≡ [] → AfterFault (copy_plan a b) copied moment moment status status.fault
 unchanged_at_memory a b moment status fault ends =
     at_fault a b moment moment status Memory fault
-      (memory_before a b moment moment status (inl ends) refl (λ o n. refl) (λ n. refl) (λ n has. has) (λ n has. Contains-append_left moment.known (a ∷ b ∷ []) n has))
+    (memory_before a b moment moment status (inl ends) refl (λ o n. refl) (λ n. refl) (λ n has. has) (λ n has. Contains-append_left moment.known (a ∷ b ∷ []) n has))
 
 -- the source was not opened
 pub source_not_opened : {T : Type 0} (a b : List ℕ) (before after : Moment) (status : Status) (refusal : HostError) → status.fault ≡ opening_fault 0 refusal → status.ends ≡ [] → after.files ≡ before.files → CountsOfCall {T = T} Open a before.count after.count (Err refusal) → ((n : List ℕ) → after.gave n ≡ before.gave n) → KnownByCall {T = T} a before.known after.known (Err refusal) → AfterFault (copy_plan a b) copied before after status status.fault
 source_not_opened {T = T} a b before after status Failed fault ends files counts gave known =
-    at_fault a b before after status (Device 0 OpenCall) fault (Reads a, record {
-      planned = refl;
-      ends = ends;
-      counts = counts_by_failure {T = T} Open a before.count after.count counts;
-      gave = gave;
-      known = known_by_open {T = T} a before.known after.known (Err Failed) known known.own;
-      files = files_same before.files after.files (FilesMade []) files (λ m. record { made = λ n e. cc; others = λ n other. refl });
-    })
+    at_fault a b before after status (Device 0 OpenCall) fault (
+      Reads a,
+      record {
+        planned = refl;
+        ends = ends;
+        counts = counts_by_failure {T = T} Open a before.count after.count counts;
+        gave = gave;
+        known = known_by_open {T = T} a before.known after.known (Err Failed) known known.own;
+        files = files_same before.files after.files (FilesMade []) files (λ m. record { made = λ n e. cc; others = λ n other. refl });
+      },
+    )
 source_not_opened {T = T} a b before after status HostMemory fault ends files counts gave known =
     at_fault a b before after status Memory fault
-      (memory_before a b before after status (inl ends) files (counts_kept_at_memory {T = T} Open a before.count after.count counts) gave known.keeps
-        (λ n has. known_one_more before.known a b n (known_only {T = T} a before.known after.known (Err HostMemory) known n has)))
+    (memory_before a b before after status (inl ends) files (counts_kept_at_memory {T = T} Open a before.count after.count counts) gave known.keeps
+    (λ n has. known_one_more before.known a b n (known_only {T = T} a before.known after.known (Err HostMemory) known n has)))
 
 -- memory was wanted for the entries of the readers
 pub entries_not_held : {T : Type 0} (a b : List ℕ) (before after : Moment) (middle : List (List ℕ)) (opened : T) (status : Status) → status.fault ≡ Memory → status.ends ≡ [] → after.files ≡ before.files → ((o : Op) (n : List ℕ) → after.count o n ≡ before.count o n) → ((n : List ℕ) → after.gave n ≡ before.gave n) → KnownByCall a before.known middle (Ok opened) → after.known ≡ middle → AfterFault (copy_plan a b) copied before after status status.fault
 entries_not_held a b before after middle opened status fault ends files counts gave known same =
     at_fault a b before after status Memory fault
-      (memory_before a b before after status (inl ends) files counts gave (λ n has. subst (λ ks. Contains ks n) (sym same) (known.keeps n has))
-        (λ n has. known_one_more before.known a b n (known_only a before.known middle (Ok opened) known n (subst (λ ks. Contains ks n) same has))))
+    (memory_before a b before after status (inl ends) files counts gave (λ n has. subst (λ ks. Contains ks n) (sym same) (known.keeps n has))
+    (λ n has. known_one_more before.known a b n (known_only a before.known middle (Ok opened) known n (subst (λ ks. Contains ks n) same has))))
 
 -- the sink was not opened
 pub sink_not_opened : {S T : Type 0} (a b : List ℕ) (before after : Moment) (c2 : Counts) (n1 n2 : List (List ℕ)) (opened : S) (status : Status) (refusal : HostError) (rest : Option (List ℕ)) → status.fault ≡ opening_fault 1 refusal → status.ends ≡ record { task = 0; given = 0; clean = false } ∷ [] → after.files ≡ before.files → IsContent before.files a rest → ((o : Op) (n : List ℕ) → c2 o n ≡ before.count o n) → CountsOfCall {T = T} Make b c2 after.count (Err refusal) → ((n : List ℕ) → after.gave n ≡ before.gave n) → KnownByCall a before.known n1 (Ok opened) → KnownByCall {T = T} b n1 n2 (Err refusal) → after.known ≡ n2 → AfterFault (copy_plan a b) copied before after status status.fault
 sink_not_opened {T = T} a b before after c2 n1 n2 opened status Failed rest fault ends files content counts_a counts_b gave known_a known_b same =
-    at_fault a b before after status (Device 1 OpenCall) fault (Writes b, record {
-      planned = refl;
-      ends = ends;
-      counts = λ o n. subst (λ c. CountsBy (is_at Make b o n) c (after.count o n)) (counts_a o n) (counts_by_failure {T = T} Make b c2 after.count counts_b o n);
-      gave = gave;
-      known = subst (λ ks. (n : List ℕ) → (Contains ks n → Contains (before.known ++ a ∷ b ∷ []) n) × (Contains (before.known ++ a ∷ b ∷ []) n → Contains ks n)) (sym same)
-        (known_by_opens {T = T} a b before.known n1 n2 (Ok opened) (Err Failed) known_a known_a.own known_b known_b.own);
-      files = files_same before.files after.files (FilesMade []) files (λ m. record { made = λ n e. cc; others = λ n other. refl });
-    })
+    at_fault a b before after status (Device 1 OpenCall) fault (
+      Writes b,
+      record {
+        planned = refl;
+        ends = ends;
+        counts = λ o n. subst (λ c. CountsBy (is_at Make b o n) c (after.count o n)) (counts_a o n) (counts_by_failure {T = T} Make b c2 after.count counts_b o n);
+        gave = gave;
+        known = subst (λ ks. (n : List ℕ) → (Contains ks n → Contains (before.known ++ a ∷ b ∷ []) n) × (Contains (before.known ++ a ∷ b ∷ []) n → Contains ks n)) (sym same)
+            (known_by_opens {T = T} a b before.known n1 n2 (Ok opened) (Err Failed) known_a known_a.own known_b known_b.own);
+        files = files_same before.files after.files (FilesMade []) files (λ m. record { made = λ n e. cc; others = λ n other. refl });
+      },
+    )
 sink_not_opened {T = T} a b before after c2 n1 n2 opened status HostMemory rest fault ends files content counts_a counts_b gave known_a known_b same =
     at_fault a b before after status Memory fault
-      (memory_before a b before after status (inr (at_rest_so_far before.files rest content)) files
-        (λ o n. counts_kept_at_memory {T = T} Make b c2 after.count counts_b o n ∙ counts_a o n) gave
-        (λ n has. subst (λ ks. Contains ks n) (sym same) (known_b.keeps n (known_a.keeps n has)))
-        (λ n has. known_only_both {T = T} a b before.known n1 n2 (Ok opened) (Err HostMemory) known_a known_b n (subst (λ ks. Contains ks n) same has))) where
-  at_rest_so_far : (files : Option Files) (rest : Option (List ℕ)) → IsContent files a rest → ReadSoFar (copy_plan a b) files status.ends
-  at_rest_so_far files rest content = record {
-    course = Gave a [] false false ∷ Took b false false ∷ [];
-    planned = refl;
-    gives = (gives_none files rest content, (gives_nothing files b false false, tt));
-    ends = ends;
-  } where
-    gives_none : (files : Option Files) (rest : Option (List ℕ)) → IsContent files a rest → GivesFile files (Gave a [] false false)
-    gives_none None rest content = tt
-    gives_none (Some files) rest content = (content.0, content.1, record { rest = content.0; joined = refl; whole = λ e. cc })
+    (memory_before a b before after status (inr (at_rest_so_far before.files rest content)) files
+    (λ o n. counts_kept_at_memory {T = T} Make b c2 after.count counts_b o n ∙ counts_a o n) gave
+    (λ n has. subst (λ ks. Contains ks n) (sym same) (known_b.keeps n (known_a.keeps n has)))
+    (λ n has. known_only_both {T = T} a b before.known n1 n2 (Ok opened) (Err HostMemory) known_a known_b n (subst (λ ks. Contains ks n) same has))) where
+      at_rest_so_far : (files : Option Files) (rest : Option (List ℕ)) → IsContent files a rest → ReadSoFar (copy_plan a b) files status.ends
+      at_rest_so_far files rest content = record {
+        course = Gave a [] false false ∷ Took b false false ∷ [];
+        planned = refl;
+        gives = (gives_none files rest content, (gives_nothing files b false false, tt));
+        ends = ends;
+      } where
+        gives_none : (files : Option Files) (rest : Option (List ℕ)) → IsContent files a rest → GivesFile files (Gave a [] false false)
+        gives_none None rest content = tt
+        gives_none (Some files) rest content = (content.0, content.1, record { rest = content.0; joined = refl; whole = λ e. cc })
 
 -- told files keep what holds of them, said in other words
 told_more : (before after : Option Files) (P Q : Files → Files → Type 0) → WhereTold before after P → ((m n : Files) → P m n → Q m n) → WhereTold before after Q
@@ -177,11 +183,11 @@ module _ {S K T A B : Type 0} (rest : S → Option (List ℕ)) (given faults : S
       let is : tasks.reading ≡ reading = tasks.read.is_reading in
       let counted : count ≡ length bytes = tasks.read.pulled.counted in
       let verdict : ran.reader ≡ verdict_of reading.ending (length bytes) =
-        tasks.read.verdict_is ∙ ap (λ (r : Reading). verdict_of r.ending count) is ∙ ap (verdict_of reading.ending) counted in
+      tasks.read.verdict_is ∙ ap (λ (r : Reading). verdict_of r.ending count) is ∙ ap (verdict_of reading.ending) counted in
       let cut : reading.ending ≡ ReadCut → count ≤ source_limit → unpulled ≡ true =
-        subst (λ (r : Reading). r.ending ≡ ReadCut → count ≤ source_limit → unpulled ≡ true) is tasks.read.cut in
+      subst (λ (r : Reading). r.ending ≡ ReadCut → count ≤ source_limit → unpulled ≡ true) is tasks.read.cut in
       let took : TakenBy ran.unput (opl_text (stream_of reading)) (taken k0) (taken k1) =
-        subst (λ (r : Reading). TakenBy ran.unput (opl_text (stream_of r)) (taken k0) (taken k1)) is tasks.took in
+      subst (λ (r : Reading). TakenBy ran.unput (opl_text (stream_of r)) (taken k0) (taken k1)) is tasks.took in
       record {
         course = Gave a bytes ran.clean unpulled ∷ Took b ran.unput (has_failed kept) ∷ [];
         planned = refl;
@@ -189,18 +195,18 @@ module _ {S K T A B : Type 0} (rest : S → Option (List ℕ)) (given faults : S
         pulls = ((tasks.read.whole, λ is_cut within. cut (cut_is reading.ending is_cut) (subst (λ n. n ≤ source_limit) (sym counted) within)), (tt, tt));
         ends = ends ∙ ap (λ n. record { task = 0; given = n; clean = ran.clean } ∷ []) counted;
         fault = fault ∙ fault_by_kept ran kept no_memory
-          ∙ ap (λ v. fault_by_verdict v ran.unput (left_by (has_failed kept))) verdict
-          ∙ sym (fault_of_copy reading a b bytes ran.clean unpulled ran.unput (has_failed kept));
+            ∙ ap (λ v. fault_by_verdict v ran.unput (left_by (has_failed kept))) verdict
+            ∙ sym (fault_of_copy reading a b bytes ran.clean unpulled ran.unput (has_failed kept));
         counts = counts_after a b bytes ran.clean unpulled ran.unput (has_failed kept) before.count c2 c3 after.count (faults s1) (unputs k1) kept h.counts
-          (subst (λ n. CountsBy unpulled n (faults s1)) h.fresh tasks.read.pulls) h.pulls
-          (subst (λ n. CountsBy ran.unput n (unputs k1)) h.unfailed tasks.puts) h.puts
-          (kept_counts kept (c3 Keep b) (after.count Keep b) no_memory h.puts.kept);
+            (subst (λ n. CountsBy unpulled n (faults s1)) h.fresh tasks.read.pulls) h.pulls
+            (subst (λ n. CountsBy ran.unput n (unputs k1)) h.unfailed tasks.puts) h.puts
+            (kept_counts kept (c3 Keep b) (after.count Keep b) no_memory h.puts.kept);
         gave = gave_after a b bytes ran.clean unpulled ran.unput (has_failed kept) before.gave g2 g3 after.gave (given s1) h.gave tasks.read.pulled.gave h.gives h.gave_kept;
         known = subst (λ ks. (n : List ℕ) → (Contains ks n → Contains (before.known ++ a ∷ b ∷ []) n) × (Contains (before.known ++ a ∷ b ∷ []) n → Contains ks n)) (sym h.known)
-          (known_by_opens a b before.known n1 n2 (Ok opened_a) (Ok opened_b) h.known_a h.known_a.own h.known_b h.known_b.own);
+            (known_by_opens a b before.known n1 n2 (Ok opened_a) (Ok opened_b) h.known_a h.known_a.own h.known_b h.known_b.own);
         files = told_more before.files after.files (KeptFiles (opl_text (stream_of reading)) b ran.unput (has_failed kept)) (FilesAfter (copy_meaning reading) (Gave a bytes ran.clean unpulled ∷ Took b ran.unput (has_failed kept) ∷ []))
-          (files_after_keep before.files f2 f3 after.files b (opl_text (stream_of reading)) ran.unput (taken k0) (taken k1) kept h.made h.closed h.empty took h.keeps no_memory)
-          (λ m n files. record { written = (tt, (files.own, tt)); others = files.others });
+            (files_after_keep before.files f2 f3 after.files b (opl_text (stream_of reading)) ran.unput (taken k0) (taken k1) kept h.made h.closed h.empty took h.keeps no_memory)
+            (λ m n files. record { written = (tt, (files.own, tt)); others = files.others });
       }
 
   -- memory was wanted after both files were opened
@@ -214,7 +220,7 @@ module _ {S K T A B : Type 0} (rest : S → Option (List ℕ)) (given faults : S
     });
     later = counts_later a b before.count c2 c3 after.count (faults s1) (unputs k1) kept h.counts h.pulls h.puts;
     counts = λ o n other. let apart : (bytes_eq n a ≡ false) × (bytes_eq n b ≡ false) = neither (bytes_eq n a) (bytes_eq n b) other in
-      counts_elsewhere a b before.count c2 c3 after.count (faults s1) (unputs k1) kept h.counts h.pulls h.puts o n apart.0 apart.1;
+        counts_elsewhere a b before.count c2 c3 after.count (faults s1) (unputs k1) kept h.counts h.pulls h.puts o n apart.0 apart.1;
     gave = λ n other. h.gave_kept n ∙ h.gives n ∙ ap (λ at. cond at (raised (g2 n) (given s1)) (g2 n)) (one_name a n other) ∙ h.gave n;
     keeps = λ n has. subst (λ ks. Contains ks n) (sym h.known) (h.known_b.keeps n (h.known_a.keeps n has));
     known = λ n has. known_only_both a b before.known n1 n2 (Ok opened_a) (Ok opened_b) h.known_a h.known_b n (subst (λ ks. Contains ks n) h.known has);
@@ -228,12 +234,12 @@ module _ {S K T A B : Type 0} (rest : S → Option (List ℕ)) (given faults : S
       at_fault a b before after status Memory fault (memory_after count tasks.read.bytes ran.clean tasks.read.pulled.told tasks.read.ended tasks.read.pulled.counted ends)
   outcome_by count (Ok ran) (Ok x) same tasks unheld fault ends =
       at_fault a b before after status (fault_by_verdict ran.reader ran.unput (left_by false)) fault
-        (after_tasks (copy_plan a b) copied before after status ran.reader ran.unput false
-          (tasks_ran count ran tasks (λ e. let no : Ok x ≡ Err HostMemory = sym same ∙ e in cc) (fault ∙ ap (fault_by (Ok ran)) (sym same)) ends))
+      (after_tasks (copy_plan a b) copied before after status ran.reader ran.unput false
+      (tasks_ran count ran tasks (λ e. let no : Ok x ≡ Err HostMemory = sym same ∙ e in cc) (fault ∙ ap (fault_by (Ok ran)) (sym same)) ends))
   outcome_by count (Ok ran) (Err Failed) same tasks unheld fault ends =
       at_fault a b before after status (fault_by_verdict ran.reader ran.unput (left_by true)) fault
-        (after_tasks (copy_plan a b) copied before after status ran.reader ran.unput true
-          (tasks_ran count ran tasks (λ e. let no : Err Failed ≡ Err HostMemory = sym same ∙ e in cc) (fault ∙ ap (fault_by (Ok ran)) (sym same)) ends))
+      (after_tasks (copy_plan a b) copied before after status ran.reader ran.unput true
+      (tasks_ran count ran tasks (λ e. let no : Err Failed ≡ Err HostMemory = sym same ∙ e in cc) (fault ∙ ap (fault_by (Ok ran)) (sym same)) ends))
 
   -- the outcome of a copy whose files were opened
   pub opened_outcome : (count : ℕ) (ran : Result Ran NoMemory) → IfOk ran (TasksRan rest given faults s0 s1 taken unputs k0 k1 count) → OnErr ran (GaveUnheld rest given s0 s1 count) → status.fault ≡ fault_by ran kept → status.ends ≡ entry_of count ran ∷ [] → AfterFault (copy_plan a b) copied before after status status.fault

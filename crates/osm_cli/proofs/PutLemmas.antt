@@ -36,7 +36,8 @@ took_front_of_next f xs i x before mid now below is told (k, fits, took) =
     let done : List ℕ = flat_map f (take i xs) in
     let parts : flat_map f xs ≡ done ++ (f x ++ flat_map f (drop (i + 1) xs)) = flat_map_parts f xs (i + 1) ∙ ap (λ bytes. bytes ++ flat_map f (drop (i + 1) xs)) (flat_map_next f xs i x below is) ∙ append_assoc done (f x) (flat_map f (drop (i + 1) xs)) in
     let seam : take (length done + k) (flat_map f xs) ≡ done ++ take k (f x) =
-      ap (take (length done + k)) parts ∙ take-append-add done (f x ++ flat_map f (drop (i + 1) xs)) k ∙ ap (λ bytes. done ++ bytes) (take-append-le k (f x) (flat_map f (drop (i + 1) xs)) fits) in
-    (length done + k,
-    omega (arith, fits, ap length parts, length-append done (f x ++ flat_map f (drop (i + 1) xs)), length-append (f x) (flat_map f (drop (i + 1) xs))),
-    took ∙ ap (λ o. append_known o (take k (f x))) told ∙ append-append before done (take k (f x)) ∙ ap (append_known before) (sym seam))
+    ap (take (length done + k)) parts ∙ take-append-add done (f x ++ flat_map f (drop (i + 1) xs)) k ∙ ap (λ bytes. done ++ bytes) (take-append-le k (f x) (flat_map f (drop (i + 1) xs)) fits) in (
+      length done + k,
+      omega (arith, fits, ap length parts, length-append done (f x ++ flat_map f (drop (i + 1) xs)), length-append (f x) (flat_map f (drop (i + 1) xs))),
+      took ∙ ap (λ o. append_known o (take k (f x))) told ∙ append-append before done (take k (f x)) ∙ ap (append_known before) (sym seam),
+    )

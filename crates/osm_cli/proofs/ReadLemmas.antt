@@ -54,7 +54,9 @@ pub is_read : {S : Type 0} (rest : S → Option (List ℕ)) (given faults : S �
 is_read rest given faults old now count bytes held reading verdict Ended pulled ends is_held is_reading is_verdict =
     let whole : reading.ending ≡ Cut → ⊥ = λ cut. not_cut Entities held (ap (λ (r : Reading). r.ending) (sym is_reading) ∙ cut) in
     record {
-      bytes = bytes; unpulled = false; pulled = pulled;
+      bytes = bytes;
+      unpulled = false;
+      pulled = pulled;
       ended = λ _. ends.1;
       pulls = ends.2;
       whole = λ _. refl;
@@ -64,7 +66,9 @@ is_read rest given faults old now count bytes held reading verdict Ended pulled 
     }
 is_read rest given faults old now count bytes held reading verdict Failed pulled ends is_held is_reading is_verdict =
     record {
-      bytes = bytes; unpulled = true; pulled = pulled;
+      bytes = bytes;
+      unpulled = true;
+      pulled = pulled;
       ended = λ clean. cc;
       pulls = ends.1;
       whole = λ clean. cc;
@@ -74,7 +78,9 @@ is_read rest given faults old now count bytes held reading verdict Failed pulled
     }
 is_read rest given faults old now count bytes held reading verdict TooLong pulled ends is_held is_reading is_verdict =
     record {
-      bytes = bytes; unpulled = false; pulled = pulled;
+      bytes = bytes;
+      unpulled = false;
+      pulled = pulled;
       ended = λ clean. cc;
       pulls = ends.1;
       whole = λ clean. refl;
@@ -82,3 +88,19 @@ is_read rest given faults old now count bytes held reading verdict TooLong pulle
       is_reading = is_reading ∙ ap (λ b. opl_reading Entities b false) is_held;
       verdict_is = is_verdict ∙ verdict_too_long reading.ending count (lt-ltb source_limit count ends.0);
     }
+
+-- one more line doesn't make a reading whole
+not_whole_before : (number : ℕ) (value : LineValue) (reading : Reading) → (reading.ending ≡ Whole → ⊥) → (before number value reading).ending ≡ Whole → ⊥
+not_whole_before number Skipped reading not_whole whole = not_whole whole
+not_whole_before number (Good item) reading not_whole whole = not_whole whole
+not_whole_before number (Bad cause) reading not_whole whole = cc
+
+not_whole_lines : (flow : Flow) (number : ℕ) (lines : List (List ℕ)) → (read_lines flow false number lines).ending ≡ Whole → ⊥
+not_whole_lines flow number [] whole = cc
+not_whole_lines flow number (line ∷ lines) whole =
+    not_whole_before number (opl_line flow line) (read_lines flow false (number + 1) lines) (not_whole_lines flow (number + 1) lines) whole
+
+-- a file whose end didn't come is never whole
+pub not_whole : (flow : Flow) (bytes : List ℕ) → (opl_reading flow bytes false).ending ≡ Whole → ⊥
+unfolding opl_reading
+not_whole flow bytes = not_whole_lines flow 1 (lines_of false (slice_split (λ b. b == 10) bytes))

@@ -9,13 +9,12 @@ ghost use Rattle.osm_cli.specs.Tasks.{TasksRan};
 ghost use Rattle.osm_cli.specs.Faults.{opening_fault, entry_of, fault_by, fault_before};
 ghost use Rattle.osm_cli.specs.Codes.{code_of};
 
-use osm_entity::{NoMemory, Text, Verdict};
-use osm_host::{Host, HostError, Sink, Source};
-use std::alloc::Global;
-
 use crate::putting::put_items;
 use crate::reading::read_source;
 use crate::status::{DeviceCall, Ends, Fault, SourceEnd, Status};
+use osm_entity::{NoMemory, Text, Verdict};
+use osm_host::{Host, HostError, Sink, Source};
+use std::alloc::Global;
 
 /// How the tasks of a copy went.
 #[derive(Clone, Copy, Debug, PartialEq, Eq)]

@@ -6,12 +6,11 @@ ghost use Rattle.osm_cli.specs.Course.{source_limit};
 ghost use Rattle.osm_cli.specs.Pulling.{GaveUnheld, is_ended};
 ghost use Rattle.osm_cli.specs.Reading.{SourceIsRead, verdict_by};
 
+use crate::gathering::{PullEnd, SOURCE_LIMIT, gather};
 use osm_entity::{Bytes, Flow, NoMemory, Spot, Verdict};
 use osm_host::Source;
 use osm_opl_line::{ReadEnding, ReadItems, read_lines_of};
 use std::alloc::Global;
-
-use crate::gathering::{PullEnd, SOURCE_LIMIT, gather};
 
 /// How many bytes are asked of a source in one pull.
 const PIECE: usize = 65536;
