@@ -5,6 +5,6 @@ mod memory;
 mod outside;
 mod tallies;
 
-pub use memory::{FailAt, Fails, FileHeld, Files, MemorySink, MemorySource};
+pub use memory::{FailAt, Fails, FileHeld, Files, MemoryHost, MemorySink, MemorySource};
 pub use outside::{Failed, Host, HostError, Op, Sink, Source};
 pub use tallies::{Faults, Tallies, Tally};

@@ -34,6 +34,19 @@ impl Faults {
         }
     }
 
+    /// The count of this kind of call.
+    pub fn of(&self, op: Op) -> u64
+        ensures { result ≡ faults_of self.now op }
+    {
+        match op {
+            Op::Open => self.opens,
+            Op::Make => self.makes,
+            Op::Pull => self.pulls,
+            Op::Put => self.puts,
+            Op::Keep => self.keeps,
+        }
+    }
+
     /// Raises the count of this kind of call.
     pub fn add(&mut self, op: Op, more: u64)
         ensures { (o : Op) → faults_of self.new o ≡ raised_at op o (faults_of self.old o) more }
@@ -100,6 +113,15 @@ fn row_of(rows: &[Tally], name: &Text) -> usize
     }
 }
 
+fn count_in(rows: &[Tally], op: Op, name: &Text) -> u64
+    ensures { result ≡ faults_in rows.now op name.now }
+{
+    match place_of(rows, name) {
+        Some(at) => rows[at].faults.of(op),
+        None => 0,
+    }
+}
+
 fn add_in(rows: &mut [Tally], op: Op, name: &Text, more: u64)
     requires { Contains (names_in rows.old) name.now }
     ensures counts { Adds op name.now more (faults_in rows.old) (faults_in rows.new) }
@@ -123,7 +145,8 @@ fn give_in(rows: &mut [Tally], name: &Text, more: u64)
 }
 
 fn has_row(rows: &[Tally], name: &Text) -> bool
-    ensures { IsTrue result → Contains (names_in rows.now) name.now }
+    ensures found { IsTrue result → Contains (names_in rows.now) name.now }
+    ensures none { Contains (names_in rows.now) name.now → IsTrue result }
 {
     match place_of(rows, name) {
         Some(_at) => true,
@@ -167,6 +190,21 @@ impl Tallies {
         Tallies {
             rows: Vec::new(alloc),
         }
+    }
+
+    /// Whether the name was entered.
+    pub fn is_known(&self, name: &Text) -> bool
+        ensures found { IsTrue result → Contains (names_in self.now) name.now }
+        ensures none { Contains (names_in self.now) name.now → IsTrue result }
+    {
+        has_row(&self.rows, name)
+    }
+
+    /// The count of this kind of call on this name; 0 where the name was not entered.
+    pub fn count(&self, op: Op, name: &Text) -> u64
+        ensures { result ≡ faults_in self.now op name.now }
+    {
+        count_in(&self.rows, op, name)
     }
 
     /// Makes a row of zeros for this name, where it has none.
