@@ -8,7 +8,3 @@ use Rattle.osm_host.specs.declared.memory.files.FileHeld.{FileHeld}
 -- the files of a list
 abbrev pub files_of : List FileHeld → Files
 files_of files = finite.from_entries (map (λ f. (f.name, f.bytes)) files)
-
--- the names of the files of a list
-abbrev pub names_of : List FileHeld → List (List ℕ)
-names_of files = map (λ f. f.name) files

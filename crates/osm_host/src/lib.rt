@@ -4,6 +4,8 @@
 mod memory;
 mod outside;
 mod tallies;
+#[cfg(test)]
+mod tests;
 
 pub use memory::{FailAt, Fails, FileHeld, Files, MemoryHost, MemorySink, MemorySource};
 pub use outside::{Failed, Host, HostError, Op, Sink, Source};

@@ -107,10 +107,9 @@ impl Host for MemoryHost {
 }
 
 impl MemoryHost {
-    ghost use Rattle.std.specs.Prelude.{nat_le, not, length, ◌&&◌};
-    ghost use Rattle.std.specs.List.{IsDistinct};
-    ghost use Rattle.std.specs.Str.{bytes_eq};
-    ghost use Rattle.osm_host.specs.Held.{files_of, names_of};
+    ghost use Rattle.std.specs.Prelude.{◌≢◌, nat_le, not, length, ◌&&◌};
+    ghost use Rattle.std.specs.List.{AllPairs};
+    ghost use Rattle.osm_host.specs.Held.{files_of};
     ghost use Rattle.osm_host.specs.Memory.{moment_of};
     ghost use Rattle.osm_host.specs.declared.outside.Op.{Op};
 
@@ -124,7 +123,7 @@ impl MemoryHost {
         mute: bool,
     ) -> Result<MemoryHost, NoMemory>
         requires piece { 0 < piece }
-        requires names { IsDistinct bytes_eq (names_of files) }
+        requires names { AllPairs (λ f g. f.name ≢ g.name) files }
         ensures files { IfOk result (λ h. (moment_of h).files ≡ Some (files_of files)) }
         ensures said { IfOk result (λ h. (moment_of h).said ≡ Some []) }
         ensures mute { IfOk result (λ h. (moment_of h).mute ≡ 0) }
