@@ -1,6 +1,6 @@
 -- What a host in memory and its sources mean: they tell everything.
 -- Here each meaning is a value; the code keeps lists, places and numbers.
-use Rattle.std.specs.Prelude.{ℕ, List, Some, drop}
+use Rattle.std.specs.Prelude.{ℕ, ◌/◌, List, length, take, drop, min, Option, Some}
 use Rattle.osm_host.specs.Held.{files_of}
 use Rattle.osm_host.specs.Moments.{Moment}
 use Rattle.osm_host.specs.Tallies.{faults_in, given_in, names_in}
@@ -10,6 +10,18 @@ use Rattle.osm_host.specs.declared.memory.source.MemorySource.{MemorySource}
 -- the bytes that a source in memory has not given yet
 abbrev pub left_of : MemorySource → List ℕ
 left_of source = drop source.place source.bytes
+
+-- what is left of a source in memory, which tells it
+abbrev pub rest_of : MemorySource → Option (List ℕ)
+rest_of source = Some (left_of source)
+
+-- how many bytes a pull gives, by what is left, the buffer and the piece
+abbrev pub pull_size : List ℕ → List ℕ → ℕ → ℕ
+pull_size left buf piece = min (min (length left) (length buf)) piece
+
+-- the first half of a piece, rounded down
+abbrev pub first_half : List ℕ → List ℕ
+first_half piece = take (length piece / 2) piece
 
 -- the six meanings of a host in memory
 abbrev pub moment_of : MemoryHost → Moment

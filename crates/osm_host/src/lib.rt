@@ -1,4 +1,4 @@
-//! The outside of a run: where bytes come from, where they go, and what is told when a device fails.
+//! The outside of a run: where bytes come from and go, and what is told when a device fails.
 #![tactic(auto)]
 
 mod memory;

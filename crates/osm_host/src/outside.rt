@@ -1,8 +1,8 @@
 //! The three traits of the outside: a source of bytes, a sink for bytes, and a host with files.
 //!
 //! A device may fail at any call. What can be known then are counts: for each name and each kind of
-//! call a host has a count of faults, and a call answers `Failed` only where its count rose. What files,
-//! sources and sinks hold is told or not: a real disk tells nothing, a host in memory tells all.
+//! call a host has a count of faults, and a call answers `Failed` only where its count rose. What
+//! files, sources and sinks hold is told or not: a real disk tells nothing, a host in memory all.
 ghost use Rattle.std.specs.Prelude.{◌≡◌, ℕ, ◌<◌, ◌≤◌, List, [], length, IfOk, OnOk, OnErr, Contains, Option};
 ghost use Rattle.std.specs.Io.KnownBytes.{append_known, IsAtEnd};
 ghost use Rattle.osm_host.specs.Counts.{raised, op_number, CountsFailure, CountsRefusal, CountsOfCall, Adds, KeepCounts, GaveOnly};

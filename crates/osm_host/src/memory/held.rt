@@ -11,7 +11,7 @@ use osm_entity::{Bytes, NoMemory, Text};
 use std::alloc::Global;
 
 /// The most bytes that a host in memory lets be said.
-const SAID_ROOM: usize = 524_288;
+const MAX_SAID: usize = 524_288;
 
 /// A host whose files lie in memory. It tells everything.
 #[derive(Drop)]
@@ -134,7 +134,7 @@ impl MemoryHost {
         Ok(MemoryHost {
             alloc,
             files,
-            said: Bytes::with_room(alloc, SAID_ROOM)?,
+            said: Bytes::with_room(alloc, MAX_SAID)?,
             tallies: Tallies::new(alloc),
             mutes: 0,
             plan: Plan::new(alloc, fail)?,
@@ -158,9 +158,9 @@ impl MemoryHost {
     }
 
     /// Whether so many bytes more may be said.
-    fn can_say(&self, count: usize) -> bool
-        ensures { result ≡ (not self.now.is_mute && nat_le (length self.now.said + count) SAID_ROOM) }
+    fn can_say(&self, more: usize) -> bool
+        ensures { result ≡ (not self.now.is_mute && nat_le (length self.now.said + more) MAX_SAID) }
     {
-        !self.is_mute && self.said.len() <= SAID_ROOM && count <= SAID_ROOM - self.said.len()
+        !self.is_mute && self.said.len() <= MAX_SAID && more <= MAX_SAID - self.said.len()
     }
 }

@@ -55,11 +55,11 @@ impl Source for MemorySource {
     ghost use Rattle.std.specs.Io.KnownBytes.{IsAtEnd};
     ghost use Rattle.osm_host.specs.Contents.{PullGives};
     ghost use Rattle.osm_host.specs.Counts.{raised, CountsFailure};
-    ghost use Rattle.osm_host.specs.Memory.{left_of};
+    ghost use Rattle.osm_host.specs.Memory.{left_of, rest_of, pull_size};
 
     ghost name = { λ s. s.name };
 
-    ghost rest = { λ s. Some (left_of s) };
+    ghost rest = { rest_of };
 
     ghost given = { λ s. s.given };
 
@@ -71,9 +71,9 @@ impl Source for MemorySource {
         requires { 0 < length buf.old }
         ensures name { self.new.name ≡ self.old.name }
         ensures fits { IfOk result (λ n. n ≤ length buf.new) }
-        ensures gives { PullGives result buf.new (Some (left_of self.old)) (Some (left_of self.new)) }
-        ensures most { IfOk result (λ n. n ≡ min (min (length (left_of self.old)) (length buf.old)) self.old.piece) }
-        ensures end { result ≡ Ok 0 → IsAtEnd (Some (left_of self.new)) }
+        ensures gives { PullGives result buf.new (rest_of self.old) (rest_of self.new) }
+        ensures most { IfOk result (λ n. n ≡ pull_size (left_of self.old) buf.old self.old.piece) }
+        ensures end { result ≡ Ok 0 → IsAtEnd (rest_of self.new) }
         ensures given { IfOk result (λ n. self.new.given ≡ raised self.old.given n) }
         ensures idle { OnErr result (self.new.given ≡ self.old.given) }
         ensures faults { CountsFailure result self.old.faults self.new.faults }
