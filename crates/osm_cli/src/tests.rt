@@ -2,6 +2,8 @@
 ghost use Rattle.std.specs.Prelude.{◌≡◌, ◌≢◌, ◌<◌, IfOk};
 ghost use Rattle.std.specs.List.{AllPairs};
 
+use crate::running::run_alone;
+use crate::status::{DeviceCall, Fault, SourceEnd, Status};
 use osm_entity::{Bytes, Cause, NoMemory, Sequence, Spot, Steps, Text, TextError};
 use osm_host::{FailAt, Fails, FileHeld, Files, MemoryHost, Op};
 use std::alloc::Global;
@@ -9,9 +11,6 @@ use std::marker::Brand;
 use std::process::Abort;
 use std::sync::ledger::{Blank, Ledger};
 use std::test::Fail;
-
-use crate::running::run_alone;
-use crate::status::{DeviceCall, Fault, SourceEnd, Status};
 
 /// The words of a copy from `a` to `b`.
 const COPY: [&[u8]; 4] = [b"--read-opl", b"file=a", b"--write-opl", b"file=b"];
@@ -134,7 +133,11 @@ fn check(rt: &(impl Abort + AllocGlobal), row: Row, piece: u32) -> Result<(), Fa
         clean,
     };
     let ends = status.ends.as_slice();
-    let count = if fault == device(0, DeviceCall::Open) { 0 } else { 1 };
+    let count = if fault == device(0, DeviceCall::Open) {
+        0
+    } else {
+        1
+    };
     assert_eq!(rt; ends.len(), count, "{says}");
     for entry in ends {
         assert_eq!(rt; *entry, end, "{says}");
@@ -159,20 +162,132 @@ fn not_built(line: u64) -> Fault {
 fn a_copy_is_as_its_row_says(rt: HostRuntime) -> Result<(), Fail> {
     let read = device(0, DeviceCall::Read);
     let table: [Row; 14] = [
-        ("an empty file", Some(b""), BOTH, NONE, b"", Fault::Clean, (0, true)),
-        ("a node", Some(b"n1 x1.5 y2\n"), BOTH, NONE, LINE, Fault::Clean, (11, true)),
-        ("digits alone", Some(b"n1 x1 y1\n"), BOTH, NONE, b"n1 v0 dV c0 t i0 u T x1 y1\n", Fault::Clean, (9, true)),
-        ("no newline at the end", Some(b"n1 x1.5 y2"), BOTH, NONE, LINE, Fault::Clean, (10, true)),
-        ("the second pull fails", Some(b"n1 x1.5 y2"), &[4096], (b"a", Op::Pull, 2), b"", read, (10, false)),
-        ("the eleventh pull fails", Some(b"n1 x1.5 y2"), &[1], (b"a", Op::Pull, 11), b"", read, (10, false)),
-        ("another kind of line", Some(b"n1 x1.5 y2\nw5\n"), BOTH, NONE, LINE, not_built(2), (14, true)),
-        ("a longitude past 180", Some(b"n1 x181 y0\n"), BOTH, NONE, b"", not_built(1), (11, true)),
-        ("zeros that say nothing", Some(b"n01 x1.50 y2\n"), BOTH, NONE, LINE, Fault::Clean, (13, true)),
-        ("a bad line before a failed pull", Some(b"x\nn1 x0"), &[4096], (b"a", Op::Pull, 2), b"", not_built(1), (7, false)),
-        ("no file to read", None, BOTH, NONE, BEFORE, device(0, DeviceCall::Open), (0, false)),
-        ("no file to write", Some(b"n1 x1.5 y2\n"), BOTH, (b"b", Op::Make, 1), BEFORE, device(1, DeviceCall::Open), (0, false)),
-        ("the first put fails", Some(b"n1 x1.5 y2\n"), BOTH, (b"b", Op::Put, 1), b"n1 v0 dV c0 t ", device(1, DeviceCall::Write), (11, true)),
-        ("the keep fails", Some(b"n1 x1.5 y2\n"), BOTH, (b"b", Op::Keep, 1), b"", device(1, DeviceCall::Keep), (11, true)),
+        (
+            "an empty file",
+            Some(b""),
+            BOTH,
+            NONE,
+            b"",
+            Fault::Clean,
+            (0, true),
+        ),
+        (
+            "a node",
+            Some(b"n1 x1.5 y2\n"),
+            BOTH,
+            NONE,
+            LINE,
+            Fault::Clean,
+            (11, true),
+        ),
+        (
+            "digits alone",
+            Some(b"n1 x1 y1\n"),
+            BOTH,
+            NONE,
+            b"n1 v0 dV c0 t i0 u T x1 y1\n",
+            Fault::Clean,
+            (9, true),
+        ),
+        (
+            "no newline at the end",
+            Some(b"n1 x1.5 y2"),
+            BOTH,
+            NONE,
+            LINE,
+            Fault::Clean,
+            (10, true),
+        ),
+        (
+            "the second pull fails",
+            Some(b"n1 x1.5 y2"),
+            &[4096],
+            (b"a", Op::Pull, 2),
+            b"",
+            read,
+            (10, false),
+        ),
+        (
+            "the eleventh pull fails",
+            Some(b"n1 x1.5 y2"),
+            &[1],
+            (b"a", Op::Pull, 11),
+            b"",
+            read,
+            (10, false),
+        ),
+        (
+            "another kind of line",
+            Some(b"n1 x1.5 y2\nw5\n"),
+            BOTH,
+            NONE,
+            LINE,
+            not_built(2),
+            (14, true),
+        ),
+        (
+            "a longitude past 180",
+            Some(b"n1 x181 y0\n"),
+            BOTH,
+            NONE,
+            b"",
+            not_built(1),
+            (11, true),
+        ),
+        (
+            "zeros that say nothing",
+            Some(b"n01 x1.50 y2\n"),
+            BOTH,
+            NONE,
+            LINE,
+            Fault::Clean,
+            (13, true),
+        ),
+        (
+            "a bad line before a failed pull",
+            Some(b"x\nn1 x0"),
+            &[4096],
+            (b"a", Op::Pull, 2),
+            b"",
+            not_built(1),
+            (7, false),
+        ),
+        (
+            "no file to read",
+            None,
+            BOTH,
+            NONE,
+            BEFORE,
+            device(0, DeviceCall::Open),
+            (0, false),
+        ),
+        (
+            "no file to write",
+            Some(b"n1 x1.5 y2\n"),
+            BOTH,
+            (b"b", Op::Make, 1),
+            BEFORE,
+            device(1, DeviceCall::Open),
+            (0, false),
+        ),
+        (
+            "the first put fails",
+            Some(b"n1 x1.5 y2\n"),
+            BOTH,
+            (b"b", Op::Put, 1),
+            b"n1 v0 dV c0 t ",
+            device(1, DeviceCall::Write),
+            (11, true),
+        ),
+        (
+            "the keep fails",
+            Some(b"n1 x1.5 y2\n"),
+            BOTH,
+            (b"b", Op::Keep, 1),
+            b"",
+            device(1, DeviceCall::Keep),
+            (11, true),
+        ),
     ];
     for row in table {
         for piece in row.2 {
