@@ -174,6 +174,7 @@ fn enter_in(rows: &mut Vec<Tally>, alloc: Global, name: &Text) -> Result<(), NoM
     ensures keeps { KeepsNames (names_in rows.old.items) (names_in rows.new.items) }
     ensures only { AddsOnly name.now (names_in rows.old.items) (names_in rows.new.items) }
     ensures own { OnOk result (Contains (names_in rows.new.items) name.now) }
+    ensures err { OnErr result (names_in rows.new.items ≡ names_in rows.old.items) }
     ensures counts { SameCounts (faults_in rows.old.items) (faults_in rows.new.items) }
     ensures gave { (n : List ℕ) → given_in rows.new.items n ≡ given_in rows.old.items n }
 {
@@ -214,6 +215,7 @@ impl Tallies {
         ensures keeps { KeepsNames (names_in self.old) (names_in self.new) }
         ensures only { AddsOnly name.now (names_in self.old) (names_in self.new) }
         ensures own { OnOk result (Contains (names_in self.new) name.now) }
+        ensures err { OnErr result (names_in self.new ≡ names_in self.old) }
         ensures counts { SameCounts (faults_in self.old) (faults_in self.new) }
         ensures gave { (n : List ℕ) → given_in self.new n ≡ given_in self.old n }
     {

@@ -23,5 +23,6 @@ gives at n bytes slice copied tail same fits copy =
 
 pub returns-clause-gives : goal.returns-clause-gives
 returns-clause-gives c =
-    ap Some (gives c.args.self.now.place c.min-count.result c.args.self.now.bytes c.as_slice.result.now c.copy_from_slice.new.self _
+    ap Some (gives c.args.self.now.place c.min-count.result c.args.self.now.bytes c.as_slice.result.now
+    c.copy_from_slice.new.self _
     c.as_slice.ensures (omega (arith, c.min.ensures, c.min-count.ensures)) c.copy_from_slice.ensures.after)
