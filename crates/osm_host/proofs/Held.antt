@@ -16,6 +16,7 @@ use Rattle.osm_host.specs.Held.{files_of}
 use Rattle.osm_host.specs.Tallies.{first_named}
 use Rattle.osm_host.proofs.Named.{named-found, named-missing, named-set}
 
+-- a search of the entries is one of the files
 find-held : (files : List FileHeld) (n : List ℕ) →
     finite.find (slice_cmp nat_cmp) n (map (λ f. (f.name, f.bytes)) files)
     ≡ first_named (λ f. f.name) (λ f. Some f.bytes) None files n
@@ -23,6 +24,7 @@ find-held [] n = refl
 find-held (f ∷ files) n =
     rw (is_eq-slice_cmp n f.name) (ap (cond (bytes_eq n f.name) (Some f.bytes)) (find-held files n))
 
+-- the map has at each name the bytes of the first file of that name
 get-held : (files : List FileHeld) (n : List ℕ) →
     finite.get (files_of files) n ≡ first_named (λ f. f.name) (λ f. Some f.bytes) None files n
 get-held files n = finite.get-from_entries nat_list_cmp_total (map (λ f. (f.name, f.bytes)) files) n ∙ find-held files n
@@ -38,6 +40,7 @@ pub files_missing : (files : List FileHeld) (n : List ℕ) →
     position (λ f. bytes_eq n f.name) files ≡ None → finite.get (files_of files) n ≡ None
 files_missing files n none = get-held files n ∙ named-missing (λ f. f.name) (λ f. Some f.bytes) None files n none
 
+-- the same after one more insert
 get-inserted : (files : List FileHeld) (file : FileHeld) (n : List ℕ) →
     finite.get (finite.insert (files_of files) file.name file.bytes) n
     ≡ cond (bytes_eq n file.name) (Some file.bytes) (first_named (λ f. f.name) (λ f. Some f.bytes) None files n)

@@ -17,10 +17,12 @@ apart n key name differ is_name is_key =
     let equal : bytes_eq key name ≡ true = (bytes_eq-Decides key name).1 same in
     cc
 
+-- at the element itself, where the test of its name is b
 changed_here : {V : Type 0} (b : Bool) (f : V → V) (v w : V) → cond b (f v) w ≡ cond b (f (cond b v w)) (cond b v w)
 changed_here true f v w = refl
 changed_here false f v w = refl
 
+-- at an element before it, where both tests cannot hold
 changed_later : {V : Type 0} (a b : Bool) (f : V → V) (v w : V) → (a ≡ true → b ≡ true → ⊥) →
     cond a v (cond b (f w) w) ≡ cond b (f (cond a v w)) (cond a v w)
 changed_later true true f v w differ = absurd (differ refl refl)
@@ -96,6 +98,7 @@ passed : (b : Bool) (m r : ℕ) → suc m ≤ cond (not b) (1 + r) 0 → (b ≡ 
 passed true m r h = absurd (omega arith)
 passed false m r h = (refl, omega arith)
 
+-- at none of these places stands the name that the search passed
 missing : {T : Type 0} (name : T → List ℕ) (ts : List T) (n : List ℕ) →
     length ts ≤ position_or_len (λ t. bytes_eq n (name t)) ts →
     (k : ℕ) → k < length ts → get_or (map name ts) k n ≡ n → ⊥
@@ -108,9 +111,11 @@ missing name (t ∷ ts) n none (suc k) inside is =
     let step = passed (bytes_eq n (name t)) (length ts) (position_or_len (λ t. bytes_eq n (name t)) ts) none in
     missing name ts n step.1 k (omega arith) is
 
+-- a search that answers None came to the end
 none_at : (a b : ℕ) → cond (nat_lt a b) (Some a) None ≡ None → b ≤ a
 none_at a b e = grind (arith, nat_tests)
 
+-- a search that answers Some stopped before the end
 some_at : (a b at : ℕ) → cond (nat_lt a b) (Some a) None ≡ Some at → a < b
 some_at a b at e = grind (arith, nat_tests)
 
@@ -121,6 +126,7 @@ position-None name ts n none has =
     missing name ts n (none_at (position_or_len (λ t. bytes_eq n (name t)) ts) (length ts) none) has.0
     (simp length-map at has.1) has.2
 
+-- where the search came to the end there is no value of this name
 missing_value : {T V : Type 0} (name : T → List ℕ) (value : T → V) (other : V) (ts : List T) (n : List ℕ) →
     length ts ≤ position_or_len (λ t. bytes_eq n (name t)) ts → first_named name value other ts n ≡ other
 missing_value name value other [] n none = refl
@@ -134,18 +140,22 @@ pub named-missing : {T V : Type 0} (name : T → List ℕ) (value : T → V) (ot
 named-missing name value other ts n none =
     missing_value name value other ts n (none_at (position_or_len (λ t. bytes_eq n (name t)) ts) (length ts) none)
 
+-- what is among the rest is among the whole
 Contains-cons : (x : List ℕ) (xs : List (List ℕ)) (n : List ℕ) → Contains xs n → Contains (x ∷ xs) n
 Contains-cons x xs n has = (suc has.0, omega arith, has.2)
 
+-- the name is the first or among the rest
 found : {T : Type 0} (name : T → List ℕ) (t : T) (ts : List T) (n : List ℕ) (b : Bool) → bytes_eq n (name t) ≡ b →
     (b ≡ false → Contains (map name ts) n) → Contains (name t ∷ map name ts) n
 found name t ts n true is later = (0, omega arith, sym ((bytes_eq-Decides n (name t)).0 is))
 found name t ts n false is later = Contains-cons (name t) (map name ts) n (later refl)
 
+-- where the first is passed the search stopped in the rest
 here_or_later : (b : Bool) (m r : ℕ) → cond (not b) (1 + r) 0 < suc m → b ≡ false → r < m
 here_or_later true m r h e = cc
 here_or_later false m r h e = omega arith
 
+-- where the search stopped before the end the name is there
 contained : {T : Type 0} (name : T → List ℕ) (ts : List T) (n : List ℕ) →
     position_or_len (λ t. bytes_eq n (name t)) ts < length ts → Contains (map name ts) n
 contained name [] n h = absurd (omega arith)
