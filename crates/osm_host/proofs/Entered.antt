@@ -20,39 +20,49 @@ none_of Pull = refl
 none_of Put = refl
 none_of Keep = refl
 
+-- an equation the other way round
 turned : (A : Type 0) (x y : List ℕ) → A ⊎ (x ≡ y) → A ⊎ (y ≡ x)
 turned A x y (inl a) = inl a
 turned A x y (inr e) = inr (sym e)
 
-names_pushed : (rows : List Tally) (name : List ℕ) → names_in (rows ++ new_row name ∷ []) ≡ names_in rows ++ name ∷ []
-names_pushed rows name = map-append (λ t. t.name) rows (new_row name ∷ [])
+-- the names after a push
+names_then : (rows now : List Tally) (name : List ℕ) → now ≡ rows ++ new_row name ∷ [] →
+    names_in now ≡ names_in rows ++ name ∷ []
+names_then rows now name ok = ap names_in ok ∙ map-append (λ t. t.name) rows (new_row name ∷ [])
 
 module _ {A E : Type 0} (name : List ℕ) (rows now : List Tally) where
-  pub entered-keeps : (result : Result A E) → OnOk result (now ≡ rows ++ new_row name ∷ []) → OnErr result (now ≡ rows) →
+  -- where the push was answered, the rows have a new one at the back
+  abbrev pub Pushed : Result A E → Type 0
+  Pushed result = OnOk result (now ≡ rows ++ new_row name ∷ [])
+
+  pub entered-keeps : (result : Result A E) → Pushed result → OnErr result (now ≡ rows) →
       (n : List ℕ) → Contains (names_in rows) n → Contains (names_in now) n
   entered-keeps (Ok x) ok err n has =
-      subst (λ names. Contains names n) (sym (ap names_in ok ∙ names_pushed rows name)) (Contains-append_left (names_in rows) _ n has)
+      subst (λ names. Contains names n) (sym (names_then rows now name ok)) (Contains-append_left (names_in rows) _ n has)
   entered-keeps (Err e) ok err n has = subst (λ rows. Contains (names_in rows) n) (sym err) has
 
-  pub entered-only : (result : Result A E) → OnOk result (now ≡ rows ++ new_row name ∷ []) → OnErr result (now ≡ rows) →
+  pub entered-only : (result : Result A E) → Pushed result → OnErr result (now ≡ rows) →
       (n : List ℕ) → Contains (names_in now) n → Contains (names_in rows) n ⊎ (n ≡ name)
   entered-only (Ok x) ok err n has = turned _ name n
-      (Contains-push_cases (names_in rows) name n (subst (λ names. Contains names n) (ap names_in ok ∙ names_pushed rows name) has))
+      (Contains-push_cases (names_in rows) name n (subst (λ names. Contains names n) (names_then rows now name ok) has))
   entered-only (Err e) ok err n has = inl (subst (λ rows. Contains (names_in rows) n) err has)
 
-  pub entered-own : (result : Result A E) → OnOk result (now ≡ rows ++ new_row name ∷ []) → OnOk result (Contains (names_in now) name)
-  entered-own (Ok x) ok = subst (λ names. Contains names name) (sym (ap names_in ok ∙ names_pushed rows name)) (Contains-push (names_in rows) name)
+  pub entered-own : (result : Result A E) → Pushed result → OnOk result (Contains (names_in now) name)
+  entered-own (Ok x) ok =
+      subst (λ names. Contains names name) (sym (names_then rows now name ok)) (Contains-push (names_in rows) name)
   entered-own (Err e) ok = tt
 
-  pub entered-counts : (result : Result A E) → OnOk result (now ≡ rows ++ new_row name ∷ []) → OnErr result (now ≡ rows) →
+  pub entered-counts : (result : Result A E) → Pushed result → OnErr result (now ≡ rows) →
       (o : Op) (n : List ℕ) → faults_in now o n ≡ faults_in rows o n
   entered-counts (Ok x) ok err o n =
-      ap (λ rows. faults_in rows o n) ok ∙ named-push (λ t. t.name) (λ t. faults_of t.faults o) 0 rows (new_row name) (none_of o) n
+      ap (λ rows. faults_in rows o n) ok
+      ∙ named-push (λ t. t.name) (λ t. faults_of t.faults o) 0 rows (new_row name) (none_of o) n
   entered-counts (Err e) ok err o n = ap (λ rows. faults_in rows o n) err
 
-  pub entered-gave : (result : Result A E) → OnOk result (now ≡ rows ++ new_row name ∷ []) → OnErr result (now ≡ rows) →
+  pub entered-gave : (result : Result A E) → Pushed result → OnErr result (now ≡ rows) →
       (n : List ℕ) → given_in now n ≡ given_in rows n
-  entered-gave (Ok x) ok err n = ap (λ rows. given_in rows n) ok ∙ named-push (λ t. t.name) (λ t. t.gave) 0 rows (new_row name) refl n
+  entered-gave (Ok x) ok err n =
+      ap (λ rows. given_in rows n) ok ∙ named-push (λ t. t.name) (λ t. t.gave) 0 rows (new_row name) refl n
   entered-gave (Err e) ok err n = ap (λ rows. given_in rows n) err
 
 -- a name was entered, and then a failure was counted, which leaves the names

@@ -16,11 +16,15 @@ use Rattle.osm_host.specs.Held.{files_of}
 use Rattle.osm_host.specs.Tallies.{first_named}
 use Rattle.osm_host.proofs.Named.{named-found, named-missing, named-set}
 
+-- a search of the entries is one of the files
 find-held : (files : List FileHeld) (n : List ℕ) →
-    finite.find (slice_cmp nat_cmp) n (map (λ f. (f.name, f.bytes)) files) ≡ first_named (λ f. f.name) (λ f. Some f.bytes) None files n
+    finite.find (slice_cmp nat_cmp) n (map (λ f. (f.name, f.bytes)) files)
+    ≡ first_named (λ f. f.name) (λ f. Some f.bytes) None files n
 find-held [] n = refl
-find-held (f ∷ files) n = rw (is_eq-slice_cmp n f.name) (ap (cond (bytes_eq n f.name) (Some f.bytes)) (find-held files n))
+find-held (f ∷ files) n =
+    rw (is_eq-slice_cmp n f.name) (ap (cond (bytes_eq n f.name) (Some f.bytes)) (find-held files n))
 
+-- the map has at each name the bytes of the first file of that name
 get-held : (files : List FileHeld) (n : List ℕ) →
     finite.get (files_of files) n ≡ first_named (λ f. f.name) (λ f. Some f.bytes) None files n
 get-held files n = finite.get-from_entries nat_list_cmp_total (map (λ f. (f.name, f.bytes)) files) n ∙ find-held files n
@@ -28,13 +32,15 @@ get-held files n = finite.get-from_entries nat_list_cmp_total (map (λ f. (f.nam
 -- where the search finds a file, the map has its bytes
 pub files_found : (files : List FileHeld) (n : List ℕ) (at : ℕ) (d : FileHeld) →
     Some at ≡ position (λ f. bytes_eq n f.name) files → finite.get (files_of files) n ≡ Some (get_or files at d).bytes
-files_found files n at d found = get-held files n ∙ named-found (λ f. f.name) (λ f. Some f.bytes) None n files at d found
+files_found files n at d found =
+    get-held files n ∙ named-found (λ f. f.name) (λ f. Some f.bytes) None n files at d found
 
 -- where the search finds none, the map has none
 pub files_missing : (files : List FileHeld) (n : List ℕ) →
     position (λ f. bytes_eq n f.name) files ≡ None → finite.get (files_of files) n ≡ None
 files_missing files n none = get-held files n ∙ named-missing (λ f. f.name) (λ f. Some f.bytes) None files n none
 
+-- the same after one more insert
 get-inserted : (files : List FileHeld) (file : FileHeld) (n : List ℕ) →
     finite.get (finite.insert (files_of files) file.name file.bytes) n
     ≡ cond (bytes_eq n file.name) (Some file.bytes) (first_named (λ f. f.name) (λ f. Some f.bytes) None files n)
@@ -48,10 +54,12 @@ pub files_set : (files : List FileHeld) (at : ℕ) (file : FileHeld) →
     files_of (set files at file) ≡ finite.insert (files_of files) file.name file.bytes
 files_set files at file found =
     let first = position-Some (λ f. bytes_eq file.name f.name) files at file (sym found) in
-    let same : file.name ≡ (get_or files at file).name = (bytes_eq-Decides file.name (get_or files at file).name).0 first.1 in
+    let same : file.name ≡ (get_or files at file).name =
+    (bytes_eq-Decides file.name (get_or files at file).name).0 first.1 in
     finite.same_map nat_list_cmp_total (finite.slice_cmp-IsAntisymmetric finite.nat_cmp-IsAntisymmetric) _ _ (λ n.
     get-held (set files at file) n
-    ∙ named-set (λ f. f.name) (λ f. Some f.bytes) None (λ _. Some file.bytes) file.name files at file file found same refl n
+    ∙ named-set (λ f. f.name) (λ f. Some f.bytes) None (λ _. Some file.bytes) file.name files at file file found
+    same refl n
     ∙ sym (get-inserted files file n))
 
 -- a file of a new name at the back

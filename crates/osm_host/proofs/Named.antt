@@ -17,10 +17,12 @@ apart n key name differ is_name is_key =
     let equal : bytes_eq key name ≡ true = (bytes_eq-Decides key name).1 same in
     cc
 
+-- at the element itself, where the test of its name is b
 changed_here : {V : Type 0} (b : Bool) (f : V → V) (v w : V) → cond b (f v) w ≡ cond b (f (cond b v w)) (cond b v w)
 changed_here true f v w = refl
 changed_here false f v w = refl
 
+-- at an element before it, where both tests cannot hold
 changed_later : {V : Type 0} (a b : Bool) (f : V → V) (v w : V) → (a ≡ true → b ≡ true → ⊥) →
     cond a v (cond b (f w) w) ≡ cond b (f (cond a v w)) (cond a v w)
 changed_later true true f v w differ = absurd (differ refl refl)
@@ -29,7 +31,8 @@ changed_later false true f v w differ = refl
 changed_later false false f v w differ = refl
 
 -- the value of the first element of this name is changed, and no other
-changed : {T V : Type 0} (name : T → List ℕ) (value : T → V) (other : V) (f : V → V) (key : List ℕ) (ts : List T) (at : ℕ) (x d : T) →
+changed : {T V : Type 0} (name : T → List ℕ) (value : T → V) (other : V) (f : V → V) (key : List ℕ) (ts : List T)
+    (at : ℕ) (x d : T) →
     at < length ts → name (get_or ts at d) ≡ key → ((k : ℕ) → k < at → bytes_eq key (name (get_or ts k d)) ≡ false) →
     name x ≡ key → value x ≡ f (value (get_or ts at d)) → (n : List ℕ) →
     first_named name value other (set ts at x) n
@@ -38,27 +41,34 @@ changed name value other f key [] at x d inside here before same now n = absurd 
 changed name value other f key (t ∷ ts) zero x d inside here before same now n =
     rw (same, here, now) (changed_here (bytes_eq n key) f (value t) (first_named name value other ts n))
 changed name value other f key (t ∷ ts) (suc at) x d inside here before same now n =
-    let later = changed name value other f key ts at x d (omega arith) here (λ k h. before (suc k) (omega arith)) same now n in
+    let before_later : (k : ℕ) → k < at → bytes_eq key (name (get_or ts k d)) ≡ false =
+    λ k h. before (suc k) (omega arith) in
+    let later = changed name value other f key ts at x d (omega arith) here before_later same now n in
     rw later (changed_later (bytes_eq n (name t)) (bytes_eq n key) f (value t) (first_named name value other ts n)
     (apart n key (name t) (before 0 (omega arith))))
 
-first_value : {T V : Type 0} (name : T → List ℕ) (value : T → V) (other : V) (n : List ℕ) (ts : List T) (at : ℕ) (d : T) →
-    at < length ts → bytes_eq n (name (get_or ts at d)) ≡ true → ((k : ℕ) → k < at → bytes_eq n (name (get_or ts k d)) ≡ false) →
+-- before the first element of a name no value counts
+first_value : {T V : Type 0} (name : T → List ℕ) (value : T → V) (other : V) (n : List ℕ) (ts : List T) (at : ℕ)
+    (d : T) → at < length ts → bytes_eq n (name (get_or ts at d)) ≡ true →
+    ((k : ℕ) → k < at → bytes_eq n (name (get_or ts k d)) ≡ false) →
     first_named name value other ts n ≡ value (get_or ts at d)
 first_value name value other n [] at d inside here before = absurd (omega arith)
 first_value name value other n (t ∷ ts) zero d inside here before = rw here refl
 first_value name value other n (t ∷ ts) (suc at) d inside here before =
-    rw (before 0 (omega arith)) (first_value name value other n ts at d (omega arith) here (λ k h. before (suc k) (omega arith)))
+    rw (before 0 (omega arith))
+    (first_value name value other n ts at d (omega arith) here (λ k h. before (suc k) (omega arith)))
 
 -- the first value of a name is that of the element where the search finds it
-pub named-found : {T V : Type 0} (name : T → List ℕ) (value : T → V) (other : V) (n : List ℕ) (ts : List T) (at : ℕ) (d : T) →
+pub named-found : {T V : Type 0} (name : T → List ℕ) (value : T → V) (other : V) (n : List ℕ) (ts : List T)
+    (at : ℕ) (d : T) →
     Some at ≡ position (λ t. bytes_eq n (name t)) ts → first_named name value other ts n ≡ value (get_or ts at d)
 named-found name value other n ts at d found =
     let first = position-Some (λ t. bytes_eq n (name t)) ts at d (sym found) in
     first_value name value other n ts at d first.0 first.1 first.2
 
 -- a write that keeps the name changes the value of that name alone
-pub named-set : {T V : Type 0} (name : T → List ℕ) (value : T → V) (other : V) (f : V → V) (key : List ℕ) (ts : List T) (at : ℕ) (x d : T) →
+pub named-set : {T V : Type 0} (name : T → List ℕ) (value : T → V) (other : V) (f : V → V) (key : List ℕ)
+    (ts : List T) (at : ℕ) (x d : T) →
     Some at ≡ position (λ t. bytes_eq key (name t)) ts →
     name x ≡ name (get_or ts at d) → value x ≡ f (value (get_or ts at d)) → (n : List ℕ) →
     first_named name value other (set ts at x) n
@@ -78,8 +88,8 @@ named-set_same name value other (t ∷ ts) (suc at) x d same now n =
     rw (named-set_same name value other ts at x d same now n) refl
 
 -- an element with the other value at the back changes nothing
-pub named-push : {T V : Type 0} (name : T → List ℕ) (value : T → V) (other : V) (ts : List T) (x : T) → value x ≡ other →
-    (n : List ℕ) → first_named name value other (ts ++ x ∷ []) n ≡ first_named name value other ts n
+pub named-push : {T V : Type 0} (name : T → List ℕ) (value : T → V) (other : V) (ts : List T) (x : T) →
+    value x ≡ other → (n : List ℕ) → first_named name value other (ts ++ x ∷ []) n ≡ first_named name value other ts n
 named-push name value other [] x now n = grind (arith, common_steps)
 named-push name value other (t ∷ ts) x now n = grind (arith, common_steps, named-push name value other ts x now n)
 
@@ -88,7 +98,9 @@ passed : (b : Bool) (m r : ℕ) → suc m ≤ cond (not b) (1 + r) 0 → (b ≡ 
 passed true m r h = absurd (omega arith)
 passed false m r h = (refl, omega arith)
 
-missing : {T : Type 0} (name : T → List ℕ) (ts : List T) (n : List ℕ) → length ts ≤ position_or_len (λ t. bytes_eq n (name t)) ts →
+-- at none of these places stands the name that the search passed
+missing : {T : Type 0} (name : T → List ℕ) (ts : List T) (n : List ℕ) →
+    length ts ≤ position_or_len (λ t. bytes_eq n (name t)) ts →
     (k : ℕ) → k < length ts → get_or (map name ts) k n ≡ n → ⊥
 missing name [] n none k inside is = absurd (omega arith)
 missing name (t ∷ ts) n none zero inside is =
@@ -96,11 +108,14 @@ missing name (t ∷ ts) n none zero inside is =
     let equal : bytes_eq n (name t) ≡ true = (bytes_eq-Decides n (name t)).1 (sym is) in
     cc
 missing name (t ∷ ts) n none (suc k) inside is =
-    missing name ts n (passed (bytes_eq n (name t)) (length ts) (position_or_len (λ t. bytes_eq n (name t)) ts) none).1 k (omega arith) is
+    let step = passed (bytes_eq n (name t)) (length ts) (position_or_len (λ t. bytes_eq n (name t)) ts) none in
+    missing name ts n step.1 k (omega arith) is
 
+-- a search that answers None came to the end
 none_at : (a b : ℕ) → cond (nat_lt a b) (Some a) None ≡ None → b ≤ a
 none_at a b e = grind (arith, nat_tests)
 
+-- a search that answers Some stopped before the end
 some_at : (a b at : ℕ) → cond (nat_lt a b) (Some a) None ≡ Some at → a < b
 some_at a b at e = grind (arith, nat_tests)
 
@@ -111,6 +126,7 @@ position-None name ts n none has =
     missing name ts n (none_at (position_or_len (λ t. bytes_eq n (name t)) ts) (length ts) none) has.0
     (simp length-map at has.1) has.2
 
+-- where the search came to the end there is no value of this name
 missing_value : {T V : Type 0} (name : T → List ℕ) (value : T → V) (other : V) (ts : List T) (n : List ℕ) →
     length ts ≤ position_or_len (λ t. bytes_eq n (name t)) ts → first_named name value other ts n ≡ other
 missing_value name value other [] n none = refl
@@ -124,18 +140,22 @@ pub named-missing : {T V : Type 0} (name : T → List ℕ) (value : T → V) (ot
 named-missing name value other ts n none =
     missing_value name value other ts n (none_at (position_or_len (λ t. bytes_eq n (name t)) ts) (length ts) none)
 
+-- what is among the rest is among the whole
 Contains-cons : (x : List ℕ) (xs : List (List ℕ)) (n : List ℕ) → Contains xs n → Contains (x ∷ xs) n
 Contains-cons x xs n has = (suc has.0, omega arith, has.2)
 
+-- the name is the first or among the rest
 found : {T : Type 0} (name : T → List ℕ) (t : T) (ts : List T) (n : List ℕ) (b : Bool) → bytes_eq n (name t) ≡ b →
     (b ≡ false → Contains (map name ts) n) → Contains (name t ∷ map name ts) n
 found name t ts n true is later = (0, omega arith, sym ((bytes_eq-Decides n (name t)).0 is))
 found name t ts n false is later = Contains-cons (name t) (map name ts) n (later refl)
 
+-- where the first is passed the search stopped in the rest
 here_or_later : (b : Bool) (m r : ℕ) → cond (not b) (1 + r) 0 < suc m → b ≡ false → r < m
 here_or_later true m r h e = cc
 here_or_later false m r h e = omega arith
 
+-- where the search stopped before the end the name is there
 contained : {T : Type 0} (name : T → List ℕ) (ts : List T) (n : List ℕ) →
     position_or_len (λ t. bytes_eq n (name t)) ts < length ts → Contains (map name ts) n
 contained name [] n h = absurd (omega arith)

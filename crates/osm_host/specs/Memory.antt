@@ -1,6 +1,6 @@
 -- What a host in memory and its sources mean: they tell everything.
 -- Here each meaning is a value; the code keeps lists, places and numbers.
-use Rattle.std.specs.Prelude.{ℕ, ◌/◌, List, length, take, drop, min, Option, Some}
+use Rattle.std.specs.Prelude.{◌≡◌, ◌++◌, ℕ, ◌/◌, List, length, take, drop, min, Option, Some}
 use Rattle.osm_host.specs.Held.{files_of}
 use Rattle.osm_host.specs.Moments.{Moment}
 use Rattle.osm_host.specs.Tallies.{faults_in, given_in, names_in}
@@ -19,9 +19,9 @@ rest_of source = Some (left_of source)
 abbrev pub pull_size : List ℕ → List ℕ → ℕ → ℕ
 pull_size left buf piece = min (min (length left) (length buf)) piece
 
--- the first half of a piece, rounded down
-abbrev pub first_half : List ℕ → List ℕ
-first_half piece = take (length piece / 2) piece
+-- the first half of a piece, rounded down, was added
+abbrev pub HasHalf : List ℕ → List ℕ → List ℕ → Type 0
+HasHalf piece before now = now ≡ before ++ take (length piece / 2) piece
 
 -- the six meanings of a host in memory
 abbrev pub moment_of : MemoryHost → Moment

@@ -97,13 +97,14 @@ impl Model for Tallies {
     ghost view = { λ t. t.rows.items };
 }
 
+/// Where the first row of this name is.
 fn place_of(rows: &[Tally], name: &Text) -> Option<usize>
     ensures { result ≡ position (λ t. bytes_eq name.now t.name) rows.now }
 {
     rows.iter().position(|row| row.name.is(name))
 }
 
-/// Where the row of this name is.
+/// Where the row of a name is that has one.
 fn row_of(rows: &[Tally], name: &Text) -> usize
     requires { Contains (names_in rows.now) name.now }
     ensures { Some result ≡ position (λ t. bytes_eq name.now t.name) rows.now }
@@ -145,6 +146,7 @@ fn give_in(rows: &mut [Tally], name: &Text, more: u64)
     row.give(more);
 }
 
+/// Whether the name has a row.
 fn has_row(rows: &[Tally], name: &Text) -> bool
     ensures found { IsTrue result → Contains (names_in rows.now) name.now }
     ensures none { Contains (names_in rows.now) name.now → IsTrue result }
@@ -155,6 +157,7 @@ fn has_row(rows: &[Tally], name: &Text) -> bool
     }
 }
 
+/// Adds a row of zeros for this name. At `Err` the rows are as they were.
 fn push_row(rows: &mut Vec<Tally>, alloc: Global, name: &Text) -> Result<(), NoMemory>
     ensures ok { OnOk result (rows.new.items ≡ rows.old.items ++ new_row name.now ∷ []) }
     ensures err { OnErr result (rows.new.items ≡ rows.old.items) }
@@ -174,6 +177,7 @@ fn enter_in(rows: &mut Vec<Tally>, alloc: Global, name: &Text) -> Result<(), NoM
     ensures keeps { KeepsNames (names_in rows.old.items) (names_in rows.new.items) }
     ensures only { AddsOnly name.now (names_in rows.old.items) (names_in rows.new.items) }
     ensures own { OnOk result (Contains (names_in rows.new.items) name.now) }
+    ensures err { OnErr result (names_in rows.new.items ≡ names_in rows.old.items) }
     ensures counts { SameCounts (faults_in rows.old.items) (faults_in rows.new.items) }
     ensures gave { (n : List ℕ) → given_in rows.new.items n ≡ given_in rows.old.items n }
 {
@@ -208,12 +212,13 @@ impl Tallies {
         count_in(&self.rows, op, name)
     }
 
-    /// Makes a row of zeros for this name, where it has none.
+    /// Makes a row of zeros for this name, where it has none. Only a new row takes memory.
     /// At `Err` there is no new row.
     pub fn enter(&mut self, alloc: Global, name: &Text) -> Result<(), NoMemory>
         ensures keeps { KeepsNames (names_in self.old) (names_in self.new) }
         ensures only { AddsOnly name.now (names_in self.old) (names_in self.new) }
         ensures own { OnOk result (Contains (names_in self.new) name.now) }
+        ensures err { OnErr result (names_in self.new ≡ names_in self.old) }
         ensures counts { SameCounts (faults_in self.old) (faults_in self.new) }
         ensures gave { (n : List ℕ) → given_in self.new n ≡ given_in self.old n }
     {

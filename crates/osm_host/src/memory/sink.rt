@@ -2,7 +2,7 @@
 ghost use Rattle.std.specs.Prelude.{◌≡◌, ℕ, ◌/◌, ◌++◌, List, [], IfOk, length, take, Option, Some, Err};
 ghost use Rattle.osm_host.specs.Counts.{CountsRefusal};
 ghost use Rattle.osm_host.specs.Contents.{PutTakes};
-ghost use Rattle.osm_host.specs.Memory.{first_half};
+ghost use Rattle.osm_host.specs.Memory.{HasHalf};
 ghost use Rattle.osm_host.specs.declared.outside.HostError.TheVariants.{Failed};
 
 use crate::memory::plan::Turns;
@@ -46,7 +46,7 @@ impl Sink for MemorySink {
     fn put(&mut self, bytes: &[u8]) -> Result<(), HostError>
         ensures name { self.new.name ≡ self.old.name }
         ensures takes { PutTakes result bytes.now (Some self.old.bytes) (Some self.new.bytes) }
-        ensures half { result ≡ Err Failed → self.new.bytes ≡ self.old.bytes ++ first_half bytes.now }
+        ensures half { result ≡ Err Failed → HasHalf bytes.now self.old.bytes self.new.bytes }
         ensures faults { CountsRefusal result self.old.faults self.new.faults }
     {
         if self.turns.fails() {

@@ -8,7 +8,8 @@ use Rattle.osm_host.proofs.tallies.add_in.Goals as goal
 
 pub returns-clause-counts : goal.returns-clause-counts
 returns-clause-counts c o n =
-    named-set (λ t. t.name) (λ t. faults_of t.faults o) 0 (λ count. raised_at c.args.op o count c.args.more) c.args.name.now
+    named-set (λ t. t.name) (λ t. faults_of t.faults o) 0 (λ count. raised_at c.args.op o count c.args.more)
+    c.args.name.now
     c.args.rows.now c.row_of-at.result _ c.index-rows-at.result c.row_of-at.ensures refl (c.add.ensures o) n
     ∙ both_tests (op_number o == op_number c.args.op) (bytes_eq n c.args.name.now) _ _
 

@@ -3,11 +3,13 @@ use Rattle.osm_host.proofs.tallies.enter_in.Goals as goal
 
 pub returns-clause-keeps : goal.returns-clause-keeps
 returns-clause-keeps c =
-    entered-keeps c.args.name.now c.args.rows.now.items c.push_row.new.rows.items c.push_row.result c.push_row.ensures.ok c.push_row.ensures.err
+    entered-keeps c.args.name.now c.args.rows.now.items c.push_row.new.rows.items c.push_row.result
+    c.push_row.ensures.ok c.push_row.ensures.err
 
 pub returns-clause-only : goal.returns-clause-only
 returns-clause-only c =
-    entered-only c.args.name.now c.args.rows.now.items c.push_row.new.rows.items c.push_row.result c.push_row.ensures.ok c.push_row.ensures.err
+    entered-only c.args.name.now c.args.rows.now.items c.push_row.new.rows.items c.push_row.result
+    c.push_row.ensures.ok c.push_row.ensures.err
 
 pub returns-clause-own : goal.returns-clause-own
 returns-clause-own c =
@@ -15,8 +17,10 @@ returns-clause-own c =
 
 pub returns-clause-counts : goal.returns-clause-counts
 returns-clause-counts c =
-    entered-counts c.args.name.now c.args.rows.now.items c.push_row.new.rows.items c.push_row.result c.push_row.ensures.ok c.push_row.ensures.err
+    entered-counts c.args.name.now c.args.rows.now.items c.push_row.new.rows.items c.push_row.result
+    c.push_row.ensures.ok c.push_row.ensures.err
 
 pub returns-clause-gave : goal.returns-clause-gave
 returns-clause-gave c =
-    entered-gave c.args.name.now c.args.rows.now.items c.push_row.new.rows.items c.push_row.result c.push_row.ensures.ok c.push_row.ensures.err
+    entered-gave c.args.name.now c.args.rows.now.items c.push_row.new.rows.items c.push_row.result
+    c.push_row.ensures.ok c.push_row.ensures.err

@@ -12,7 +12,8 @@ returns-clause-gave c n =
 
 pub returns-clause-counts : goal.returns-clause-counts
 returns-clause-counts c o n =
-    named-set_same (λ t. t.name) (λ t. faults_of t.faults o) 0 c.args.rows.now c.row_of-at.result _ c.index-rows-at.result
+    named-set_same (λ t. t.name) (λ t. faults_of t.faults o) 0 c.args.rows.now c.row_of-at.result _
+    c.index-rows-at.result
     c.give.ensures.name (ap (λ faults. faults_of faults o) c.give.ensures.faults) n
 
 pub returns-clause-known : goal.returns-clause-known

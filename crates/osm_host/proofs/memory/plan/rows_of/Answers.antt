@@ -10,8 +10,8 @@ pub loop-fail-preserved : goal.loop-fail-preserved
 loop-fail-preserved c = record {
   known =
       let own = subst (λ f. Contains (names_in c.enter.new.self) f.name) c.fail-item.is c.in_ok-enter.ensures.own in
-      All-more (λ f. Contains (names_in c.enter.new.self) f.name) c.args.fails.now c.loop-fail.fail-index c.fail-item.result
-      c.loop-fail-test.true
+      All-more (λ f. Contains (names_in c.enter.new.self) f.name) c.args.fails.now c.loop-fail.fail-index
+      c.fail-item.result c.loop-fail-test.true
       (All-weaker (λ f. Contains (names_in c.loop-fail.calls) f.name) (λ f. Contains (names_in c.enter.new.self) f.name)
       (λ f. c.enter.ensures.keeps f.name) (take c.loop-fail.fail-index c.args.fails.now) c.loop-fail.invariant.known)
       own;
@@ -20,4 +20,5 @@ loop-fail-preserved c = record {
 
 pub returns-clause-known : goal.returns-clause-known
 returns-clause-known c =
-    subst (HasRows c.loop-fail.calls) (take_all c.loop-fail.fail-index c.args.fails.now (omega arith)) c.loop-fail.invariant.known
+    subst (HasRows c.loop-fail.calls) (take_all c.loop-fail.fail-index c.args.fails.now (omega arith))
+    c.loop-fail.invariant.known
