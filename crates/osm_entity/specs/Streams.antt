@@ -1,11 +1,9 @@
 -- Streams: a list of items and an end; and what it is for one stream to be before another.
 -- Here a stream is whole; the code sees one message at a time.
-use Rattle.std.specs.Prelude.{◌≡◌, List, [], ◌∷◌, ◌++◌, map}
+use Rattle.std.specs.Prelude.{◌≡◌, List, ◌++◌}
 use Rattle.osm_entity.specs.Items.{ItemValue}
 use Rattle.osm_entity.specs.declared.stream.End.{End}
-use Rattle.osm_entity.specs.declared.stream.End.TheVariants.{Done, Broken}
-use Rattle.osm_entity.specs.declared.stream.Message.{Message}
-use Rattle.osm_entity.specs.declared.stream.Message.TheVariants.{Item as One, End as Last}
+use Rattle.osm_entity.specs.declared.stream.End.TheVariants.{Done}
 
 -- a stream: its items, and how it ends
 pub record Stream : Type 0 where
@@ -17,7 +15,3 @@ pub record IsBefore (a b : Stream) : Type 0 where
   pub rest : List ItemValue
   pub front : b.items ≡ a.items ++ rest
   pub done : a.end ≡ Done → a ≡ b
-
--- the messages of a stream are its items and then its end
-abbrev pub messages_of : Stream → List Message
-messages_of s = map One s.items ++ Last s.end ∷ []

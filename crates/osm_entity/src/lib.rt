@@ -5,16 +5,20 @@
 mod entity;
 mod item;
 mod kind;
+mod laws;
 mod parts;
 mod sequence;
 mod steps;
 mod stream;
+#[cfg(test)]
+mod tests;
 mod text;
 mod verdict;
 
 pub use entity::Entity;
 pub use item::{Act, Item, Items};
 pub use kind::{Flow, Key, Kind};
+pub use laws::before_is_an_order;
 pub use parts::{Body, Member, Members, Place, Refs, Tag, Tags};
 pub use sequence::{Bytes, NoMemory, Sequence};
 pub use steps::Steps;

@@ -1,12 +1,14 @@
 -- A row pushed for a name, or no row where memory was wanted: what the names and the counts are then.
-use Rattle.std.proofs.Common.{◌≡◌, ℕ, List, [], ◌∷◌, ◌++◌, sym, subst, ◌∙◌, refl, ap}
+use Rattle.std.proofs.Common.{◌≡◌, ℕ, List, [], ◌∷◌, ◌++◌, ◌⊎◌, sym, subst, ◌∙◌, refl, ap, inl, inr}
 use Rattle.std.proofs.lemmas.List.{map-append}
-use Rattle.std.proofs.lemmas.List.Elements.{Contains-append_left, Contains-push}
+use Rattle.std.proofs.lemmas.List.Elements.{Contains-append_left, Contains-push, Contains-push_cases}
 use Rattle.std.specs.Prelude.{Contains, OnOk, OnErr, Ok, Err}
 use Rattle.std.specs.declared.result.Result.{Result}
 use Rattle.osm_host.specs.declared.outside.Op.{Op}
 use Rattle.osm_host.specs.declared.outside.Op.TheVariants.{Open, Make, Pull, Put, Keep}
 use Rattle.osm_host.specs.declared.tallies.Tally.{Tally}
+use Rattle.osm_host.specs.declared.outside.HostError.TheVariants.{Failed}
+use Rattle.osm_host.specs.Names.{KnownByCall}
 use Rattle.osm_host.specs.Tallies.{new_row, no_faults, faults_of, faults_in, given_in, names_in}
 use Rattle.osm_host.proofs.Named.{named-push}
 
@@ -18,6 +20,10 @@ none_of Pull = refl
 none_of Put = refl
 none_of Keep = refl
 
+turned : (A : Type 0) (x y : List ℕ) → A ⊎ (x ≡ y) → A ⊎ (y ≡ x)
+turned A x y (inl a) = inl a
+turned A x y (inr e) = inr (sym e)
+
 names_pushed : (rows : List Tally) (name : List ℕ) → names_in (rows ++ new_row name ∷ []) ≡ names_in rows ++ name ∷ []
 names_pushed rows name = map-append (λ t. t.name) rows (new_row name ∷ [])
 
@@ -27,6 +33,12 @@ module _ {A E : Type 0} (name : List ℕ) (rows now : List Tally) where
   entered-keeps (Ok x) ok err n has =
       subst (λ names. Contains names n) (sym (ap names_in ok ∙ names_pushed rows name)) (Contains-append_left (names_in rows) _ n has)
   entered-keeps (Err e) ok err n has = subst (λ rows. Contains (names_in rows) n) (sym err) has
+
+  pub entered-only : (result : Result A E) → OnOk result (now ≡ rows ++ new_row name ∷ []) → OnErr result (now ≡ rows) →
+      (n : List ℕ) → Contains (names_in now) n → Contains (names_in rows) n ⊎ (n ≡ name)
+  entered-only (Ok x) ok err n has = turned _ name n
+      (Contains-push_cases (names_in rows) name n (subst (λ names. Contains names n) (ap names_in ok ∙ names_pushed rows name) has))
+  entered-only (Err e) ok err n has = inl (subst (λ rows. Contains (names_in rows) n) err has)
 
   pub entered-own : (result : Result A E) → OnOk result (now ≡ rows ++ new_row name ∷ []) → OnOk result (Contains (names_in now) name)
   entered-own (Ok x) ok = subst (λ names. Contains names name) (sym (ap names_in ok ∙ names_pushed rows name)) (Contains-push (names_in rows) name)
@@ -42,3 +54,14 @@ module _ {A E : Type 0} (name : List ℕ) (rows now : List Tally) where
       (n : List ℕ) → given_in now n ≡ given_in rows n
   entered-gave (Ok x) ok err n = ap (λ rows. given_in rows n) ok ∙ named-push (λ t. t.name) (λ t. t.gave) 0 rows (new_row name) refl n
   entered-gave (Err e) ok err n = ap (λ rows. given_in rows n) err
+
+-- a name was entered, and then a failure was counted, which leaves the names
+pub known-failed : {T : Type 0} (name : List ℕ) (before entered now : List (List ℕ)) →
+    ((n : List ℕ) → Contains before n → Contains entered n) →
+    ((n : List ℕ) → Contains entered n → Contains before n ⊎ (n ≡ name)) →
+    Contains entered name → now ≡ entered → KnownByCall {T = T} name before now (Err Failed)
+known-failed name before entered now keeps only own same = record {
+  keeps = λ n has. subst (λ names. Contains names n) (sym same) (keeps n has);
+  only = λ n has. only n (subst (λ names. Contains names n) same has);
+  own = subst (λ names. Contains names name) (sym same) own;
+}

@@ -42,6 +42,21 @@ changed name value other f key (t ∷ ts) (suc at) x d inside here before same n
     rw later (changed_later (bytes_eq n (name t)) (bytes_eq n key) f (value t) (first_named name value other ts n)
     (apart n key (name t) (before 0 (omega arith))))
 
+first_value : {T V : Type 0} (name : T → List ℕ) (value : T → V) (other : V) (n : List ℕ) (ts : List T) (at : ℕ) (d : T) →
+    at < length ts → bytes_eq n (name (get_or ts at d)) ≡ true → ((k : ℕ) → k < at → bytes_eq n (name (get_or ts k d)) ≡ false) →
+    first_named name value other ts n ≡ value (get_or ts at d)
+first_value name value other n [] at d inside here before = absurd (omega arith)
+first_value name value other n (t ∷ ts) zero d inside here before = rw here refl
+first_value name value other n (t ∷ ts) (suc at) d inside here before =
+    rw (before 0 (omega arith)) (first_value name value other n ts at d (omega arith) here (λ k h. before (suc k) (omega arith)))
+
+-- the first value of a name is that of the element where the search finds it
+pub named-found : {T V : Type 0} (name : T → List ℕ) (value : T → V) (other : V) (n : List ℕ) (ts : List T) (at : ℕ) (d : T) →
+    Some at ≡ position (λ t. bytes_eq n (name t)) ts → first_named name value other ts n ≡ value (get_or ts at d)
+named-found name value other n ts at d found =
+    let first = position-Some (λ t. bytes_eq n (name t)) ts at d (sym found) in
+    first_value name value other n ts at d first.0 first.1 first.2
+
 -- a write that keeps the name changes the value of that name alone
 pub named-set : {T V : Type 0} (name : T → List ℕ) (value : T → V) (other : V) (f : V → V) (key : List ℕ) (ts : List T) (at : ℕ) (x d : T) →
     Some at ≡ position (λ t. bytes_eq key (name t)) ts →
@@ -95,6 +110,19 @@ pub position-None : {T : Type 0} (name : T → List ℕ) (ts : List T) (n : List
 position-None name ts n none has =
     missing name ts n (none_at (position_or_len (λ t. bytes_eq n (name t)) ts) (length ts) none) has.0
     (simp length-map at has.1) has.2
+
+missing_value : {T V : Type 0} (name : T → List ℕ) (value : T → V) (other : V) (ts : List T) (n : List ℕ) →
+    length ts ≤ position_or_len (λ t. bytes_eq n (name t)) ts → first_named name value other ts n ≡ other
+missing_value name value other [] n none = refl
+missing_value name value other (t ∷ ts) n none =
+    let step = passed (bytes_eq n (name t)) (length ts) (position_or_len (λ t. bytes_eq n (name t)) ts) none in
+    rw step.0 (missing_value name value other ts n step.1)
+
+-- a name that the search doesn't find has the other value
+pub named-missing : {T V : Type 0} (name : T → List ℕ) (value : T → V) (other : V) (ts : List T) (n : List ℕ) →
+    position (λ t. bytes_eq n (name t)) ts ≡ None → first_named name value other ts n ≡ other
+named-missing name value other ts n none =
+    missing_value name value other ts n (none_at (position_or_len (λ t. bytes_eq n (name t)) ts) (length ts) none)
 
 Contains-cons : (x : List ℕ) (xs : List (List ℕ)) (n : List ℕ) → Contains xs n → Contains (x ∷ xs) n
 Contains-cons x xs n has = (suc has.0, omega arith, has.2)

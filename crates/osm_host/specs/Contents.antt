@@ -42,7 +42,8 @@ BecomesFile None name before now = SameBut name before now
 BecomesFile (Some bytes) name before now = now ≡ set_file name bytes before
 
 -- a keep makes the file; after a failure nothing is said of it, and want of memory changes no file
-abbrev pub KeepsFile : {T : Type 0} → Result T HostError → List ℕ → Option (List ℕ) → Option Files → Option Files → Type 0
+abbrev pub KeepsFile : {T : Type 0} → Result T HostError → List ℕ → Option (List ℕ) → Option Files → Option Files →
+    Type 0
 KeepsFile (Ok x) name taken before now = BecomesFile taken name before now
 KeepsFile (Err Failed) name taken before now = SameBut name before now
 KeepsFile (Err Memory) name taken before now = now ≡ before

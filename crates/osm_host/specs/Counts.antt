@@ -53,10 +53,19 @@ is_at op name o n = (op_number o == op_number op) && bytes_eq n name
 abbrev pub Counts : Type 0
 Counts = Op → List ℕ → ℕ
 
+-- no count changed
+abbrev pub SameCounts : Counts → Counts → Type 0
+SameCounts before now = (o : Op) (n : List ℕ) → now o n ≡ before o n
+
+-- no count changed but that of this kind and name
+abbrev pub SameCountsBut : Op → List ℕ → Counts → Counts → Type 0
+SameCountsBut op name before now = (o : Op) (n : List ℕ) → is_at op name o n ≡ false → now o n ≡ before o n
+
 -- a call raises at most the count of its kind and name
-pub record CountsOfCall {T : Type 0} (op : Op) (name : List ℕ) (before now : Counts) (result : Result T HostError) : Type 0 where
+pub record CountsOfCall {T : Type 0} (op : Op) (name : List ℕ) (before now : Counts)
+    (result : Result T HostError) : Type 0 where
   pub own : CountsRefusal result (before op name) (now op name)
-  pub others : (o : Op) (n : List ℕ) → is_at op name o n ≡ false → now o n ≡ before o n
+  pub others : SameCountsBut op name before now
 
 -- the count of this kind and name is raised by so much, and all others stay
 abbrev pub Adds : Op → List ℕ → ℕ → Counts → Counts → Type 0
@@ -64,7 +73,8 @@ Adds op name more before now =
     (o : Op) (n : List ℕ) → now o n ≡ (if is_at op name o n then raised (before o n) more else before o n)
 
 -- a keep raises its own count where it failed, and the count of puts by what failed of them
-pub record KeepCounts {T : Type 0} (name : List ℕ) (faults : ℕ) (before now : Counts) (result : Result T HostError) : Type 0 where
+pub record KeepCounts {T : Type 0} (name : List ℕ) (faults : ℕ) (before now : Counts)
+    (result : Result T HostError) : Type 0 where
   pub kept : CountsRefusal result (before Keep name) (now Keep name)
   pub puts : now Put name ≡ raised (before Put name) faults
   pub others : (o : Op) (n : List ℕ) → is_at Keep name o n ≡ false → is_at Put name o n ≡ false → now o n ≡ before o n

@@ -11,8 +11,17 @@ IsKnownAfter (Ok x) name now = Contains now name
 IsKnownAfter (Err Failed) name now = Contains now name
 IsKnownAfter (Err Memory) name now = ⊤
 
+-- no name left
+abbrev pub KeepsNames : List (List ℕ) → List (List ℕ) → Type 0
+KeepsNames before now = (n : List ℕ) → Contains before n → Contains now n
+
+-- no name came but this one
+abbrev pub AddsOnly : List ℕ → List (List ℕ) → List (List ℕ) → Type 0
+AddsOnly name before now = (n : List ℕ) → Contains now n → Contains before n ⊎ (n ≡ name)
+
 -- an open adds at most its own name, and no name ever leaves
-pub record KnownByCall {T : Type 0} (name : List ℕ) (before now : List (List ℕ)) (result : Result T HostError) : Type 0 where
-  pub keeps : (n : List ℕ) → Contains before n → Contains now n
-  pub only : (n : List ℕ) → Contains now n → Contains before n ⊎ (n ≡ name)
+pub record KnownByCall {T : Type 0} (name : List ℕ) (before now : List (List ℕ))
+    (result : Result T HostError) : Type 0 where
+  pub keeps : KeepsNames before now
+  pub only : AddsOnly name before now
   pub own : IsKnownAfter result name now

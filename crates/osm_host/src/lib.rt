@@ -1,10 +1,12 @@
-//! The outside of a run: where bytes come from, where they go, and what is told when a device fails.
+//! The outside of a run: where bytes come from and go, and what is told when a device fails.
 #![tactic(auto)]
 
 mod memory;
 mod outside;
 mod tallies;
+#[cfg(test)]
+mod tests;
 
-pub use memory::{FailAt, Fails, MemorySink, MemorySource};
+pub use memory::{FailAt, Fails, FileHeld, Files, MemoryHost, MemorySink, MemorySource};
 pub use outside::{Failed, Host, HostError, Op, Sink, Source};
 pub use tallies::{Faults, Tallies, Tally};

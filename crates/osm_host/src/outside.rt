@@ -1,11 +1,11 @@
 //! The three traits of the outside: a source of bytes, a sink for bytes, and a host with files.
 //!
 //! A device may fail at any call. What can be known then are counts: for each name and each kind of
-//! call a host has a count of faults, and a call answers `Failed` only where its count rose. What files,
-//! sources and sinks hold is told or not: a real disk tells nothing, a host in memory tells all.
+//! call a host has a count of faults, and a call answers `Failed` only where its count rose. What
+//! files, sources and sinks hold is told or not: a real disk tells nothing, a host in memory all.
 ghost use Rattle.std.specs.Prelude.{◌≡◌, ℕ, ◌<◌, ◌≤◌, List, [], length, IfOk, OnOk, OnErr, Contains, Option};
 ghost use Rattle.std.specs.Io.KnownBytes.{append_known, IsAtEnd};
-ghost use Rattle.osm_host.specs.Counts.{raised, CountsFailure, CountsRefusal, CountsOfCall, Adds, KeepCounts, GaveOnly};
+ghost use Rattle.osm_host.specs.Counts.{raised, op_number, CountsFailure, CountsRefusal, CountsOfCall, Adds, KeepCounts, GaveOnly};
 ghost use Rattle.osm_host.specs.Contents.{Files, IsContent, IsEmptyWhereTold, set_file, KeepsFile, PullGives, PutTakes};
 ghost use Rattle.osm_host.specs.Names.{KnownByCall};
 ghost use Rattle.osm_host.specs.declared.outside.Op.{Op};
@@ -52,6 +52,21 @@ pub enum Op {
     Put,
     /// Keeping a sink as a file.
     Keep,
+}
+
+impl Op {
+    /// A number for each kind of call, in the order above from 0.
+    pub fn number(self) -> u8
+        ensures { result ≡ op_number self }
+    {
+        match self {
+            Op::Open => 0,
+            Op::Make => 1,
+            Op::Pull => 2,
+            Op::Put => 3,
+            Op::Keep => 4,
+        }
+    }
 }
 
 /// Where bytes come from.

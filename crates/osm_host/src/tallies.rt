@@ -1,7 +1,8 @@
 //! The counts of a host: a row for each name that was opened, with its faults and the bytes given.
-ghost use Rattle.std.specs.Prelude.{◌≡◌, ℕ, ◌⊎◌, ◌<◌, ◌==◌, if◌then◌else◌, List, [], false, Contains, ◌++◌, ◌∷◌, OnOk, OnErr, IsTrue, position, Some};
+ghost use Rattle.std.specs.Prelude.{◌≡◌, ℕ, ◌<◌, ◌==◌, if◌then◌else◌, List, [], Contains, ◌++◌, ◌∷◌, OnOk, OnErr, IsTrue, position, Some};
 ghost use Rattle.std.specs.Str.{bytes_eq};
-ghost use Rattle.osm_host.specs.Counts.{raised, is_at, Rises, Adds, GaveOnly};
+ghost use Rattle.osm_host.specs.Counts.{raised, Rises, Adds, SameCounts, SameCountsBut, GaveOnly};
+ghost use Rattle.osm_host.specs.Names.{KeepsNames, AddsOnly};
 ghost use Rattle.osm_host.specs.Tallies.{faults_of, raised_at, faults_in, given_in, names_in, new_row, no_faults};
 ghost use Rattle.osm_host.specs.declared.outside.Op.{Op};
 
@@ -31,6 +32,19 @@ impl Faults {
             pulls: 0,
             puts: 0,
             keeps: 0,
+        }
+    }
+
+    /// The count of this kind of call.
+    pub fn of(&self, op: Op) -> u64
+        ensures { result ≡ faults_of self.now op }
+    {
+        match op {
+            Op::Open => self.opens,
+            Op::Make => self.makes,
+            Op::Pull => self.pulls,
+            Op::Put => self.puts,
+            Op::Keep => self.keeps,
         }
     }
 
@@ -100,6 +114,15 @@ fn row_of(rows: &[Tally], name: &Text) -> usize
     }
 }
 
+fn count_in(rows: &[Tally], op: Op, name: &Text) -> u64
+    ensures { result ≡ faults_in rows.now op name.now }
+{
+    match place_of(rows, name) {
+        Some(at) => rows[at].faults.of(op),
+        None => 0,
+    }
+}
+
 fn add_in(rows: &mut [Tally], op: Op, name: &Text, more: u64)
     requires { Contains (names_in rows.old) name.now }
     ensures counts { Adds op name.now more (faults_in rows.old) (faults_in rows.new) }
@@ -114,7 +137,7 @@ fn add_in(rows: &mut [Tally], op: Op, name: &Text, more: u64)
 fn give_in(rows: &mut [Tally], name: &Text, more: u64)
     requires { Contains (names_in rows.old) name.now }
     ensures gave { GaveOnly name.now more (given_in rows.old) (given_in rows.new) }
-    ensures counts { (o : Op) (n : List ℕ) → faults_in rows.new o n ≡ faults_in rows.old o n }
+    ensures counts { SameCounts (faults_in rows.old) (faults_in rows.new) }
     ensures known { names_in rows.new ≡ names_in rows.old }
 {
     let at = row_of(rows, name);
@@ -123,7 +146,8 @@ fn give_in(rows: &mut [Tally], name: &Text, more: u64)
 }
 
 fn has_row(rows: &[Tally], name: &Text) -> bool
-    ensures { IsTrue result → Contains (names_in rows.now) name.now }
+    ensures found { IsTrue result → Contains (names_in rows.now) name.now }
+    ensures none { Contains (names_in rows.now) name.now → IsTrue result }
 {
     match place_of(rows, name) {
         Some(_at) => true,
@@ -147,10 +171,10 @@ fn push_row(rows: &mut Vec<Tally>, alloc: Global, name: &Text) -> Result<(), NoM
 }
 
 fn enter_in(rows: &mut Vec<Tally>, alloc: Global, name: &Text) -> Result<(), NoMemory>
-    ensures keeps { (n : List ℕ) → Contains (names_in rows.old.items) n → Contains (names_in rows.new.items) n }
-    ensures only { (n : List ℕ) → Contains (names_in rows.new.items) n → Contains (names_in rows.old.items) n ⊎ (n ≡ name.now) }
+    ensures keeps { KeepsNames (names_in rows.old.items) (names_in rows.new.items) }
+    ensures only { AddsOnly name.now (names_in rows.old.items) (names_in rows.new.items) }
     ensures own { OnOk result (Contains (names_in rows.new.items) name.now) }
-    ensures counts { (o : Op) (n : List ℕ) → faults_in rows.new.items o n ≡ faults_in rows.old.items o n }
+    ensures counts { SameCounts (faults_in rows.old.items) (faults_in rows.new.items) }
     ensures gave { (n : List ℕ) → given_in rows.new.items n ≡ given_in rows.old.items n }
 {
     if has_row(rows, name) {
@@ -169,13 +193,28 @@ impl Tallies {
         }
     }
 
+    /// Whether the name was entered.
+    pub fn is_known(&self, name: &Text) -> bool
+        ensures found { IsTrue result → Contains (names_in self.now) name.now }
+        ensures none { Contains (names_in self.now) name.now → IsTrue result }
+    {
+        has_row(&self.rows, name)
+    }
+
+    /// The count of this kind of call on this name; 0 where the name was not entered.
+    pub fn count(&self, op: Op, name: &Text) -> u64
+        ensures { result ≡ faults_in self.now op name.now }
+    {
+        count_in(&self.rows, op, name)
+    }
+
     /// Makes a row of zeros for this name, where it has none.
     /// At `Err` there is no new row.
     pub fn enter(&mut self, alloc: Global, name: &Text) -> Result<(), NoMemory>
-        ensures keeps { (n : List ℕ) → Contains (names_in self.old) n → Contains (names_in self.new) n }
-        ensures only { (n : List ℕ) → Contains (names_in self.new) n → Contains (names_in self.old) n ⊎ (n ≡ name.now) }
+        ensures keeps { KeepsNames (names_in self.old) (names_in self.new) }
+        ensures only { AddsOnly name.now (names_in self.old) (names_in self.new) }
         ensures own { OnOk result (Contains (names_in self.new) name.now) }
-        ensures counts { (o : Op) (n : List ℕ) → faults_in self.new o n ≡ faults_in self.old o n }
+        ensures counts { SameCounts (faults_in self.old) (faults_in self.new) }
         ensures gave { (n : List ℕ) → given_in self.new n ≡ given_in self.old n }
     {
         enter_in(&mut self.rows, alloc, name)
@@ -195,7 +234,7 @@ impl Tallies {
     pub fn fail(&mut self, op: Op, name: &Text)
         requires { Contains (names_in self.old) name.now }
         ensures own { Rises (faults_in self.old op name.now) (faults_in self.new op name.now) }
-        ensures others { (o : Op) (n : List ℕ) → is_at op name.now o n ≡ false → faults_in self.new o n ≡ faults_in self.old o n }
+        ensures others { SameCountsBut op name.now (faults_in self.old) (faults_in self.new) }
         ensures gave { (n : List ℕ) → given_in self.new n ≡ given_in self.old n }
         ensures known { names_in self.new ≡ names_in self.old }
     {
@@ -206,7 +245,7 @@ impl Tallies {
     pub fn give(&mut self, name: &Text, more: u64)
         requires { Contains (names_in self.old) name.now }
         ensures gave { GaveOnly name.now more (given_in self.old) (given_in self.new) }
-        ensures counts { (o : Op) (n : List ℕ) → faults_in self.new o n ≡ faults_in self.old o n }
+        ensures counts { SameCounts (faults_in self.old) (faults_in self.new) }
         ensures known { names_in self.new ≡ names_in self.old }
     {
         give_in(&mut self.rows, name, more);

@@ -17,6 +17,7 @@ use Rattle.osm_opl_line.specs.Reading.{Reading, Ending, BadLine, lines_of, befor
 use Rattle.osm_opl_line.specs.Writing.{IsPlain}
 use Rattle.osm_opl_line.proofs.CuttingLemmas.{slice_split-nonempty}
 
+-- these items, and this ending
 abbrev reading_of : List ItemValue → Ending → Reading
 reading_of items ending = record { items = items; ending = ending }
 
@@ -28,7 +29,8 @@ lines_of-cons clean line (part ∷ parts) some = refl
 
 -- nothing is read before the first line
 pub opl_reading-start : (flow : Flow) (bytes : List ℕ) (clean : Bool) →
-    opl_reading flow bytes clean ≡ after [] (read_lines flow clean 1 (lines_of clean (slice_split (λ b. b == 10) bytes)))
+    opl_reading flow bytes clean
+    ≡ after [] (read_lines flow clean 1 (lines_of clean (slice_split (λ b. b == 10) bytes)))
 unfolding opl_reading
 opl_reading-start flow bytes clean = refl
 
@@ -50,8 +52,7 @@ pub after-passed : (whole_file : Reading) (flow : Flow) (clean : Bool) (number :
     whole_file ≡ after taken (read_lines flow clean (number + 1) (lines_of clean (slice_split (λ b. b == 10) more)))
 after-passed whole_file flow clean number bytes line more items taken known cut passes =
     let reading : Reading = read_lines flow clean (number + 1) (lines_of clean (slice_split (λ b. b == 10) more)) in
-    let goes_on : after items (before number (opl_line flow line) reading) ≡ after taken reading = passes number reading in
-    subst (λ r. whole_file ≡ r) goes_on
+    subst (λ r. whole_file ≡ r) (passes number reading)
     (subst (λ r. whole_file ≡ after items r) (read_lines-cut flow clean number bytes line more cut) known)
 
 -- a bad line ends the reading
@@ -66,10 +67,12 @@ ended whole_file flow clean number bytes line more items taken cause known cut b
     subst (λ l. whole_file ≡ after items (before number l reading)) bad
     (subst (λ r. whole_file ≡ after items r) (read_lines-cut flow clean number bytes line more cut) known) in
     let all : taken ≡ items ++ [] = rw append-nil same in
-    subst (λ r. reading_of taken (BadLine cause number) ≡ r) (sym stops) (ap (λ i. reading_of i (BadLine cause number)) all)
+    subst (λ r. reading_of taken (BadLine cause number) ≡ r) (sym stops)
+    (ap (λ i. reading_of i (BadLine cause number)) all)
 
 -- an item of an entity file that an id and degrees say is plain
-node_of-plain : (id : ℤ) (lon lat : Option ℤ) (item : ItemValue) → node_of Entities id lon lat ≡ Some item → IsPlain item
+node_of-plain : (id : ℤ) (lon lat : Option ℤ) (item : ItemValue) → node_of Entities id lon lat ≡ Some item →
+    IsPlain item
 node_of-plain id None lat item said = absurd (none-some item said)
 node_of-plain id (Some lon) None item said = absurd (none-some item said)
 node_of-plain id (Some lon) (Some lat) item said =
@@ -77,11 +80,13 @@ node_of-plain id (Some lon) (Some lat) item said =
     (plain_item Entities id (record { lon = lon; lat = lat })) item said in
     subst IsPlain parts.1 (record { place = record { lon = lon; lat = lat }; kept = refl; plain = refl })
 
--- the fields of a line know the flow of its file
-plain_of-flow : (flow : Flow) (x y : List ℕ) (id : Option ℤ) (f : Fields) → plain_of flow x y id ≡ Some f → f.flow ≡ flow
+-- the fields of a plain node know the flow of its file
+plain_of-flow : (flow : Flow) (x y : List ℕ) (id : Option ℤ) (f : Fields) → plain_of flow x y id ≡ Some f →
+    f.flow ≡ flow
 plain_of-flow flow x y None f found = absurd (none-some f found)
 plain_of-flow flow x y (Some id) f found = ap (λ g. g.flow) (sym (same_Some (plain_fields flow x y id) f found))
 
+-- the fields of a line know the flow of its file
 fields_of-flow : (flow : Flow) (parts : List (List ℕ)) (f : Fields) → fields_of flow parts ≡ Some f → f.flow ≡ flow
 fields_of-flow flow ((n ∷ id) ∷ (x ∷ lon) ∷ (y ∷ lat) ∷ []) f found =
     cond_both (n == 110 && x == 120 && y == 121) (plain_of flow lon lat (whole id)) None
@@ -104,13 +109,17 @@ opl_line-plain line item good =
     (subst (λ flow. node_of flow f.id (option_and_then short f.x) (option_and_then short f.y) ≡ Some item)
     (fields_of-flow Entities (pieces line) f found) said))
 
-before-plain : (number : ℕ) (line : LineValue) (reading : Reading) → ((item : ItemValue) → line ≡ Good item → IsPlain item) →
+-- a line that says a plain item keeps the items plain
+before-plain : (number : ℕ) (line : LineValue) (reading : Reading) →
+    ((item : ItemValue) → line ≡ Good item → IsPlain item) →
     All IsPlain reading.items → All IsPlain (before number line reading).items
 before-plain number Skipped reading one rest = rest
 before-plain number (Good item) reading one rest = All-cons IsPlain item reading.items (one item refl) rest
 before-plain number (Bad cause) reading one rest = λ k d below. absurd (omega arith)
 
-read_lines-plain : (clean : Bool) (number : ℕ) (lines : List (List ℕ)) → All IsPlain (read_lines Entities clean number lines).items
+-- all items of lines of an entity file are plain
+read_lines-plain : (clean : Bool) (number : ℕ) (lines : List (List ℕ)) →
+    All IsPlain (read_lines Entities clean number lines).items
 read_lines-plain clean number [] = λ k d below. absurd (omega arith)
 read_lines-plain clean number (line ∷ lines) =
     before-plain number (opl_line Entities line) (read_lines Entities clean (number + 1) lines) (opl_line-plain line)
@@ -125,7 +134,7 @@ opl_reading-plain flow bytes clean entities =
     (read_lines-plain clean 1 (lines_of clean (slice_split (λ b. b == 10) bytes)))
 
 -- the items that a reading ended with are plain in an entity file
-pub items-plain : (flow : Flow) (bytes : List ℕ) (clean : Bool) (reading : Reading) → reading ≡ opl_reading flow bytes clean →
-    flow ≡ Entities → All IsPlain reading.items
+pub items-plain : (flow : Flow) (bytes : List ℕ) (clean : Bool) (reading : Reading) →
+    reading ≡ opl_reading flow bytes clean → flow ≡ Entities → All IsPlain reading.items
 items-plain flow bytes clean reading same entities =
     subst (λ r. All IsPlain r.items) (sym same) (opl_reading-plain flow bytes clean entities)

@@ -1,6 +1,6 @@
 -- What a line of an OPL file says: an item, or a cause why it can't be read.
 -- Here a line is cut at once into all its pieces; the code moves a place through the line.
-use Rattle.std.specs.Prelude.{◌≡◌, IsTrue, ℕ, ℤ, List, [], ◌∷◌, Bool, ◌&&◌, ◌==◌, if◌then◌else◌, option_and_then, Option, Some, None}
+use Rattle.std.specs.Prelude.{ℕ, ℤ, List, [], ◌∷◌, ◌&&◌, ◌==◌, if◌then◌else◌, option_and_then, Option, Some, None}
 use Rattle.std.specs.List.{slice_split}
 use Rattle.std.specs.Option.{option_map}
 use Rattle.osm_entity.specs.Entities.{EntityValue, place_fits}
@@ -109,11 +109,6 @@ node_of flow id lon lat = None
 -- the item that the fields say
 abbrev pub item_of : Fields → Option ItemValue
 item_of f = node_of f.flow f.id (option_and_then short f.x) (option_and_then short f.y)
-
--- what the code keeps of a cut line: its fields say a plain node, at the place that was read from them
-pub record IsLine (f : Fields) (place : Place) : Type 0 where
-  pub says : item_of f ≡ Some (plain_item f.flow f.id place)
-  pub fits : IsTrue (place_fits place)
 
 -- what a line says where it says an item; every other line isn't read yet
 abbrev pub said_by : Option ItemValue → LineValue

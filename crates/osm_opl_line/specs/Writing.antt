@@ -1,6 +1,6 @@
 -- The bytes of an OPL file: one line for each item, all of one form.
 -- Here a line is one formula of its item; the code appends field after field.
-use Rattle.std.specs.Prelude.{ℕ, ℤ, List, [], ◌∷◌, ◌++◌, ◌≡◌, Option, Some, None, codes}
+use Rattle.std.specs.Prelude.{ℕ, List, [], ◌++◌, ◌≡◌, Some, None, codes}
 use Rattle.std.specs.Fmt.{signed_decimal}
 use Rattle.std.specs.List.{flat_map}
 use Rattle.osm_entity.specs.Items.{ItemValue}

@@ -4,8 +4,8 @@
 //! each field is a slice of the line.
 ghost use Rattle.std.specs.Prelude.{◌≡◌, ◌≢◌, ◌≤◌, ◌*◌, ◌↔◌, ◌∷◌, [], ℤ, None, Some, Ok, Err, IfOk, IfSome, IfNone, IsSome, IsTrue, length, nat_le, nat_abs};
 ghost use Rattle.std.specs.Option.{option_map, option_and_then};
-ghost use Rattle.osm_entity.specs.declared.kind.Flow.{Flow as Stream};
-ghost use Rattle.osm_entity.specs.declared.verdict.Cause.{Cause as Why};
+ghost use Rattle.osm_entity.specs.declared.kind.Flow.{Flow};
+ghost use Rattle.osm_entity.specs.declared.verdict.Cause.{Cause};
 ghost use Rattle.osm_entity.specs.Entities.{degree, place_fits};
 ghost use Rattle.osm_text.specs.Numbers.{whole, short};
 ghost use Rattle.osm_entity.specs.declared.verdict.Cause.TheVariants.{NotBuilt};
@@ -33,27 +33,28 @@ pub struct Line<'a> {
     pub y: Option<&'a [u8]>,
     /// The field `N` of a way, or `M` of a relation.
     pub list: Option<&'a [u8]>,
-    /// What `x` and `y` say: they are read once, when the line is cut.
+    /// What `x` and `y` say. They are read once, when the line is cut.
     pub(crate) place: Place,
 }
 
 impl<'a> Model for Line<'a> {
-    ghost use Rattle.std.specs.Option.{option_map};
-    ghost use Rattle.osm_opl_line.specs.Line.{Fields, IsLine};
+    ghost use Rattle.osm_opl_line.specs.Line.{Fields};
 
     ghost Value = { Fields };
 
-    ghost view = { λ l. record { flow = l.flow; kind = l.kind; id = l.id; v = option_map (λ s. s.now) l.v; d = option_map (λ s. s.now) l.d; c = option_map (λ s. s.now) l.c; t = option_map (λ s. s.now) l.t; i = option_map (λ s. s.now) l.i; u = option_map (λ s. s.now) l.u; tags = option_map (λ s. s.now) l.tags; x = option_map (λ s. s.now) l.x; y = option_map (λ s. s.now) l.y; list = option_map (λ s. s.now) l.list } };
+    ghost use Rattle.osm_opl_line.specs.Cut.{fields_seen, IsCut};
 
-    ghost invariant = { λ l. IsLine (record { flow = l.flow; kind = l.kind; id = l.id; v = option_map (λ s. s.now) l.v; d = option_map (λ s. s.now) l.d; c = option_map (λ s. s.now) l.c; t = option_map (λ s. s.now) l.t; i = option_map (λ s. s.now) l.i; u = option_map (λ s. s.now) l.u; tags = option_map (λ s. s.now) l.tags; x = option_map (λ s. s.now) l.x; y = option_map (λ s. s.now) l.y; list = option_map (λ s. s.now) l.list }) l.place };
+    ghost view = { fields_seen };
+
+    ghost invariant = { IsCut };
 }
 
 /// Cuts a line of an OPL file of this flow into its fields, which are slices of the line.
-/// `None` where the line says nothing. It takes no memory.
+/// `None` where the line says nothing, and the cause where it is bad. It takes no memory.
 pub fn cut_line(line: &[u8], flow: Flow) -> Result<Option<Line<'_>>, Cause>
     ensures skipped { result ≡ Ok None ↔ opl_line flow line.now ≡ Skipped }
     ensures fields { IfOk result (λ o. IfSome o (λ l. fields_of flow (pieces line.now) ≡ Some l)) }
-    ensures refused { (cause : Why) → result ≡ Err cause ↔ opl_line flow line.now ≡ Bad cause }
+    ensures refused { (cause : Cause) → result ≡ Err cause ↔ opl_line flow line.now ≡ Bad cause }
 {
     match plain_line(line, flow) {
         Some(line) => Ok(Some(line)),
@@ -101,7 +102,9 @@ fn content(piece: &[u8], letter: u8) -> Option<&[u8]>
 fn line_of<'a>(flow: Flow, id: &[u8], x: &'a [u8], y: &'a [u8]) -> Option<Line<'a>>
     ensures some { IfSome result (λ l. plain_of flow x.now y.now (whole id.now) ≡ Some l) }
     ensures good { IfSome result (λ l. IsSome (item_of l)) }
-    ensures none { IfNone result (said_by (option_and_then item_of (plain_of flow x.now y.now (whole id.now))) ≡ Bad NotBuilt) }
+    ensures none { IfNone result
+        (said_by (option_and_then item_of (plain_of flow x.now y.now (whole id.now)))
+        ≡ Bad NotBuilt) }
 {
     let place = read_place(x, y)?;
     match read_whole(id) {
@@ -127,7 +130,7 @@ fn line_of<'a>(flow: Flow, id: &[u8], x: &'a [u8], y: &'a [u8]) -> Option<Line<'
 
 // The place of these degrees, where they are short numbers within 180 and 90.
 fn read_place(x: &[u8], y: &[u8]) -> Option<Place>
-    ensures value { (flow : Stream) (id : ℤ) → node_of flow id (short x.now) (short y.now)
+    ensures value { (flow : Flow) (id : ℤ) → node_of flow id (short x.now) (short y.now)
         ≡ option_map (plain_item flow id) result }
     ensures fits { IfSome result (λ p. IsTrue (place_fits p)) }
 {

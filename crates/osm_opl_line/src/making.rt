@@ -15,6 +15,7 @@ impl<'a> Line<'a> {
             Flow::Entities => Act::Keep,
             Flow::Changes => Act::Modify,
         };
+        let place = self.place;
         let entity = Entity {
             id: self.id,
             version: 0,
@@ -23,7 +24,7 @@ impl<'a> Line<'a> {
             uid: 0,
             user: Text::new(alloc),
             tags: Tags::new(alloc),
-            body: Body::Node(Some(self.place)),
+            body: Body::Node(Some(place)),
         };
         Ok(Item { act, entity })
     }

@@ -72,7 +72,8 @@ fn read_last(
     clean: bool,
     number: u64,
 ) -> Result<ReadEnding, NoMemory>
-    ensures { IfOk result (λ ending. after items.old (read_lines flow clean number (lines_of clean (rest.now ∷ [])))
+    ensures { IfOk result (λ ending.
+        after items.old (read_lines flow clean number (lines_of clean (rest.now ∷ [])))
         ≡ record { items = items.new; ending = ending_seen ending }) }
 {
     if !clean {
@@ -97,8 +98,9 @@ fn take_line(
     line: &[u8],
     flow: Flow,
 ) -> Result<Option<Cause>, NoMemory>
-    ensures none { IfOk result (λ bad. IfNone bad ((number : ℕ) (reading : Reading)
-        → after items.old (before number (opl_line flow line.now) reading) ≡ after items.new reading)) }
+    ensures none { IfOk result (λ bad. IfNone bad ((number : ℕ) (reading : Reading) →
+        after items.old (before number (opl_line flow line.now) reading)
+        ≡ after items.new reading)) }
     ensures some { IfOk result (λ bad. IfSome bad (λ cause. opl_line flow line.now ≡ Bad cause)) }
     ensures same { IfOk result (λ bad. OnSome bad (items.new ≡ items.old)) }
 {

@@ -66,7 +66,8 @@ fn a_line_of_a_change_file_modifies_its_node(rt: HostRuntime) -> Result<(), Fail
     let read = read_lines_of(rt.alloc(), b"n1 x1.5 y2\n", Flow::Changes, true)?;
     let items = read.items.as_slice();
     assert_eq!(rt; items.len(), 1);
-    assert_eq!(rt; items[0].act, Act::Modify);
+    let item = &items[0];
+    assert_eq!(rt; item.act, Act::Modify);
     Ok(())
 }
 

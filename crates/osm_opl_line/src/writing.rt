@@ -50,6 +50,7 @@ fn append_body(out: &mut Bytes, body: &Body) -> Result<(), NoMemory>
     }
 }
 
+// Appends `x` and `y` with the degrees of a place.
 fn append_place(out: &mut Bytes, place: &Place) -> Result<(), NoMemory>
     requires { IsTrue (place_fits place.now) }
     ensures ok { OnOk result (out.new ≡ out.old ++ place_text place.now) }

@@ -16,6 +16,7 @@ use Rattle.osm_text.proofs.KeptLemmas.{kept_some}
 pub digits_test : IsDigitsTest (λ ds. list_all (λ c. is_digit c 10) ds ≡ true)
 digits_test = search rules
 
+-- and their value is std's value
 pub digits_model : IsNumeralModel (λ ds. list_all (λ c. is_digit c 10) ds ≡ true) (digits_value 10)
 digits_model = numerals_by_value _ digits_test
 
@@ -24,7 +25,8 @@ pub digits-more : (bytes : List ℕ) (i digit next : ℕ) → i < length bytes �
     Some digit ≡ (if is_digit (get_or bytes i 0) 10 then Some (digit_value (get_or bytes i 0)) else None) →
     list_all (λ c. is_digit c 10) (take i bytes) ≡ true →
     next ≡ min (digits_value 10 (take i bytes) * 10 + digit) (2 ^ 63 + 1) →
-    (next ≡ min (digits_value 10 (take (i + 1) bytes)) (2 ^ 63 + 1)) × (list_all (λ c. is_digit c 10) (take (i + 1) bytes) ≡ true)
+    (next ≡ min (digits_value 10 (take (i + 1) bytes)) (2 ^ 63 + 1)) ×
+    (list_all (λ c. is_digit c 10) (take (i + 1) bytes) ≡ true)
 digits-more bytes i digit next within is before added =
     let kept = kept_some (is_digit (get_or bytes i 0) 10) (digit_value (get_or bytes i 0)) digit is in
     let value = digits_value_more 10 bytes i within in (
@@ -32,7 +34,7 @@ digits-more bytes i digit next within is before added =
       rw (list_all_more (λ c. is_digit c 10) bytes i 0 within) (and_from _ _ before kept.1),
     )
 
--- the same with the test on digits as a parameter
+-- at most 18 digits are no number that is too large, by whether they are digits
 short_digits_at : (digits : Bool) (most : ℕ) (bytes : List ℕ) → length bytes ≤ most →
     (digits ≡ true → digits_value 10 bytes < 10 ^ 18) →
     (if nat_lt 0 (length bytes) && nat_le (length bytes) (length bytes) && digits
@@ -52,8 +54,9 @@ short_digits most bytes within small =
     short_digits_at (list_all (λ c. is_digit c 10) bytes) most bytes within
     (λ digits. digits_value_short digits_model bytes 18 digits (omega arith))
 
--- what is_digits says of each byte
-pub list_all-are_digits : (most : ℕ) (bytes : List ℕ) → are_digits most bytes ≡ true → list_all (λ c. is_digit c 10) bytes ≡ true
+-- one to so many digits are digits throughout
+pub list_all-are_digits : (most : ℕ) (bytes : List ℕ) → are_digits most bytes ≡ true →
+    list_all (λ c. is_digit c 10) bytes ≡ true
 list_all-are_digits most bytes digits =
     (and_parts (nat_lt 0 (length bytes) && nat_le (length bytes) most) (list_all (λ c. is_digit c 10) bytes) digits).1
 

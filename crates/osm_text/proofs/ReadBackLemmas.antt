@@ -29,9 +29,11 @@ decimal-digits n small = digits_decimal digits_model n small
 decimal-value : (n : ℕ) → n < 2 ^ 64 → digits_value 10 (decimal n) ≡ n
 decimal-value n small = digits_value-decimal digits_model n small
 
+-- one to so many digits are digits
 are_digits-from : (most : ℕ) (bytes : List ℕ) → 0 < length bytes → length bytes ≤ most →
     list_all (λ c. is_digit c 10) bytes ≡ true → are_digits most bytes ≡ true
-are_digits-from most bytes some within digits = rw (lt-ltb 0 (length bytes) some, le-leb (length bytes) most within, digits)
+are_digits-from most bytes some within digits =
+    rw (lt-ltb 0 (length bytes) some, le-leb (length bytes) most within, digits)
 
 -- a digit is no minus
 digit-no_minus : (c : ℕ) → is_digit c 10 ≡ true → (c == 45) ≡ false
@@ -45,11 +47,13 @@ digits-no_minus (c ∷ cs) rest some each =
     let first : is_digit c 10 ≡ true = (and_parts (is_digit c 10) (list_all (λ c. is_digit c 10) cs) each).0 in
     digit-no_minus c first
 
+-- a whole number from its sign and its digits
 whole-at : (minus : Bool) (bytes digits : List ℕ) (n : ℕ) → has_minus bytes ≡ minus → unsigned_part bytes ≡ digits →
     are_digits (length bytes) digits ≡ true → digits_value 10 digits ≡ n → size_fits minus n ≡ true →
     whole bytes ≡ Some (signed minus n)
 whole-at minus bytes digits n sign rest are value fits = rw (rest, are, sign, value, fits)
 
+-- the text of a whole number reads back
 pub whole-signed_decimal : (z : ℤ) → FitsSigned w64 z → whole (signed_decimal z) ≡ Some z
 whole-signed_decimal (pos n) fits =
     let small : n < 2 ^ 63 = fits.sfits in
@@ -62,12 +66,13 @@ whole-signed_decimal (pos n) fits =
 whole-signed_decimal (negsuc n) fits =
     let small : n < 2 ^ 63 = fits.sfits in
     whole-at true (45 ∷ decimal (suc n)) (decimal (suc n)) (suc n) refl refl
-    (are_digits-from (length (45 ∷ decimal (suc n))) (decimal (suc n)) (decimal_nonempty (suc n) (omega arith)) (omega arith)
-    (decimal-digits (suc n) (omega arith)))
+    (are_digits-from (length (45 ∷ decimal (suc n))) (decimal (suc n)) (decimal_nonempty (suc n) (omega arith))
+    (omega arith) (decimal-digits (suc n) (omega arith)))
     (decimal-value (suc n) (omega arith)) (le-leb (suc n) (2 ^ 63) (omega arith))
 
 -- zeros before digits add nothing
-digits_value-zeros : (count : ℕ) (digits : List ℕ) → digits_value 10 (replicate count 48 ++ digits) ≡ digits_value 10 digits
+digits_value-zeros : (count : ℕ) (digits : List ℕ) →
+    digits_value 10 (replicate count 48 ++ digits) ≡ digits_value 10 digits
 digits_value-zeros zero digits = refl
 digits_value-zeros (suc count) digits = digits_value-zeros count digits
 
@@ -80,6 +85,7 @@ list_all-zeros : (count : ℕ) → list_all (λ c. is_digit c 10) (replicate cou
 list_all-zeros zero = refl
 list_all-zeros (suc count) = list_all-zeros count
 
+-- nine digits are digits
 list_all-nine : (n : ℕ) → n < 10 ^ 9 → list_all (λ c. is_digit c 10) (nine_digits n) ≡ true
 list_all-nine n small =
     rw (
@@ -89,13 +95,15 @@ list_all-nine n small =
     )
 
 -- a digit in the zeros at the end is one
-suffix-zero : (digits : List ℕ) (k : ℕ) → k < suffix_len (λ c. c == 48) digits → get_or digits (length digits - 1 - k) 0 ≡ 48
+suffix-zero : (digits : List ℕ) (k : ℕ) → k < suffix_len (λ c. c == 48) digits →
+    get_or digits (length digits - 1 - k) 0 ≡ 48
 suffix-zero digits k within =
     let bound = suffix_len-le-length (λ c. c == 48) digits in
     let passes = prefix_len_passes (λ c. c == 48) (reverse digits) k 0 within in
     let below : k < length digits = omega arith in
     eqb-true _ 48 (rw (get_or-reverse digits k 0 below) at passes)
 
+-- a factor of ten moves from a value to its scale
 scaled : (value scale : ℕ) → value * 10 * scale ≡ value * (scale * 10)
 scaled value scale = omega arith
 
@@ -110,9 +118,11 @@ digits_value-suffix digits (suc k) within =
     let same : length digits - 1 - k ≡ length digits - suc k = omega arith in
     let last : get_or digits (length digits - suc k) 0 ≡ 48 = rw same at (suffix-zero digits k (omega arith)) in
     let more = digits_value_more 10 digits (length digits - suc k) (omega arith) in
-    let added : digits_value 10 (take (length digits - k) digits) ≡ digits_value 10 (take (length digits - suc k) digits) * 10 =
+    let added : digits_value 10 (take (length digits - k) digits) ≡
+    digits_value 10 (take (length digits - suc k) digits) * 10 =
     rw place (more ∙ rw last (omega arith)) in
-    rw pow-suc (fewer ∙ ap (λ v. v * 10 ^ k) added ∙ scaled (digits_value 10 (take (length digits - suc k) digits)) (10 ^ k))
+    rw pow-suc
+    (fewer ∙ ap (λ v. v * 10 ^ k) added ∙ scaled (digits_value 10 (take (length digits - suc k) digits)) (10 ^ k))
 
 -- the first digits of digits are digits
 list_all-take : (count : ℕ) (digits : List ℕ) → list_all (λ c. is_digit c 10) digits ≡ true →
@@ -126,7 +136,8 @@ length-trimmed : (n : ℕ) → n < 10 ^ 9 → length (trimmed (nine_digits n)) +
 length-trimmed n small =
     let nine = length-nine_digits n small in
     let bound = suffix_len-le-length (λ c. c == 48) (nine_digits n) in
-    let kept = length-take-le (length (nine_digits n) - suffix_len (λ c. c == 48) (nine_digits n)) (nine_digits n) (omega arith) in
+    let kept = length-take-le (length (nine_digits n) - suffix_len (λ c. c == 48) (nine_digits n)) (nine_digits n)
+    (omega arith) in
     omega arith
 
 -- their value, by the place of the last, is the number
@@ -143,13 +154,16 @@ some-from_value : (digits : List ℕ) (scale n : ℕ) → digits_value 10 digits
 some-from_value [] scale n is some = absurd (omega arith)
 some-from_value (c ∷ cs) scale n is some = omega arith
 
+-- the digits of a fraction above 0, without the zeros at their end, are one to nine digits
 trimmed-digits : (n : ℕ) → 0 < n → n < 10 ^ 9 → are_digits 9 (trimmed (nine_digits n)) ≡ true
 trimmed-digits n some small =
     let kept = length-trimmed n small in
     are_digits-from 9 (trimmed (nine_digits n))
-    (some-from_value (trimmed (nine_digits n)) (10 ^ (9 - length (trimmed (nine_digits n)))) n (trimmed-value n small) some)
+    (some-from_value (trimmed (nine_digits n)) (10 ^ (9 - length (trimmed (nine_digits n)))) n
+    (trimmed-value n small) some)
     (omega arith)
-    (list_all-take (length (nine_digits n) - suffix_len (λ c. c == 48) (nine_digits n)) (nine_digits n) (list_all-nine n small))
+    (list_all-take (length (nine_digits n) - suffix_len (λ c. c == 48) (nine_digits n)) (nine_digits n)
+    (list_all-nine n small))
 
 -- whole degrees below 1,000 have one to three digits
 degrees-digits : (n : ℕ) → n < 10 ^ 3 → are_digits 3 (decimal n) ≡ true
@@ -157,6 +171,7 @@ degrees-digits n low =
     are_digits-from 3 (decimal n) (decimal_nonempty n (omega arith))
     (length-decimal-le 3 n (omega arith) low (omega arith)) (decimal-digits n (omega arith))
 
+-- the parts of whole degrees and the digits after a point
 short_parts-pointed : (minus : Bool) (n rest : ℕ) (after : List ℕ) → n < 10 ^ 3 → are_digits 9 after ≡ true →
     digits_value 10 after * 10 ^ (9 - length after) ≡ rest →
     short_parts minus (slice_split (λ b. b == 46) (decimal n ++ 46 ∷ after)) ≡ Some (signed minus (n * 10 ^ 9 + rest))
@@ -175,26 +190,32 @@ short_parts-pointed minus n rest after low digits value =
 
 -- the parts of whole degrees and a fraction
 short_parts-written : (minus : Bool) (n rest : ℕ) → n < 10 ^ 3 → rest < 10 ^ 9 →
-    short_parts minus (slice_split (λ b. b == 46) (decimal n ++ fraction_text rest)) ≡ Some (signed minus (n * 10 ^ 9 + rest))
+    short_parts minus (slice_split (λ b. b == 46) (decimal n ++ fraction_text rest)) ≡
+    Some (signed minus (n * 10 ^ 9 + rest))
 short_parts-written minus n zero low small =
     let digits = degrees-digits n low in
     rw (append-nil (decimal n), split-digits 3 (decimal n) digits, digits, decimal-value n (omega arith))
 short_parts-written minus n (suc k) low small =
     rw (ne_eqb (suc k) 0 (λ is. omega arith))
-    (short_parts-pointed minus n (suc k) (trimmed (nine_digits (suc k))) low (trimmed-digits (suc k) (omega arith) small)
+    (short_parts-pointed minus n (suc k) (trimmed (nine_digits (suc k))) low
+    (trimmed-digits (suc k) (omega arith) small)
     (trimmed-value (suc k) small))
 
+-- a short number from its sign and its parts
 short-at : (minus : Bool) (bytes body : List ℕ) (n : ℕ) → has_minus bytes ≡ minus → unsigned_part bytes ≡ body →
     short_parts minus (slice_split (λ b. b == 46) body) ≡ Some (signed minus n) → short bytes ≡ Some (signed minus n)
 short-at minus bytes body n sign rest parts = rw (rest, sign) parts
 
+-- the text of nanodegrees below 1,000 degrees reads back
 pub short-nano_text : (z : ℤ) → nat_abs z < 10 ^ 12 → short (nano_text z) ≡ Some z
 short-nano_text (pos n) small =
     let sum : n / 10 ^ 9 * 10 ^ 9 + n % 10 ^ 9 ≡ n = omega arith in
-    let sign = digits-no_minus (decimal (n / 10 ^ 9)) (fraction_text (n % 10 ^ 9)) (decimal_nonempty (n / 10 ^ 9) (omega arith))
+    let sign = digits-no_minus (decimal (n / 10 ^ 9)) (fraction_text (n % 10 ^ 9))
+    (decimal_nonempty (n / 10 ^ 9) (omega arith))
     (decimal-digits (n / 10 ^ 9) (omega arith)) in
     rw (le-ltb n 0 (omega arith))
-    (rw sum at (short-at false (decimal (n / 10 ^ 9) ++ fraction_text (n % 10 ^ 9)) (decimal (n / 10 ^ 9) ++ fraction_text (n % 10 ^ 9))
+    (rw sum at (short-at false (decimal (n / 10 ^ 9) ++ fraction_text (n % 10 ^ 9))
+    (decimal (n / 10 ^ 9) ++ fraction_text (n % 10 ^ 9))
     (n / 10 ^ 9 * 10 ^ 9 + n % 10 ^ 9) sign (rw sign)
     (short_parts-written false (n / 10 ^ 9) (n % 10 ^ 9) (omega arith) (omega arith))))
 short-nano_text (negsuc n) small =

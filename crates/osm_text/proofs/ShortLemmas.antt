@@ -17,13 +17,16 @@ pub digit-no_point : (c : ℕ) → is_digit c 10 ≡ true → (c == 46) ≡ fals
 digit-no_point c digit = grind (arith, nat_tests)
 
 -- digits have no point to be split at
-pub split-digits : (most : ℕ) (bytes : List ℕ) → are_digits most bytes ≡ true → slice_split (λ b. b == 46) bytes ≡ bytes ∷ []
+pub split-digits : (most : ℕ) (bytes : List ℕ) → are_digits most bytes ≡ true →
+    slice_split (λ b. b == 46) bytes ≡ bytes ∷ []
 split-digits most bytes digits =
     slice_split_none (λ b. b == 46) bytes
     (λ k d below. digit-no_point (get_or bytes k d)
     (AllPass-from_list_all (λ c. is_digit c 10) bytes (list_all-are_digits most bytes digits) k d below))
 
-short_parts-at : (minus : Bool) (before after : List ℕ) (parts : List (List ℕ)) → slice_split (λ b. b == 46) after ≡ parts →
+-- two parts around a point, or more than two where the second has a point itself
+short_parts-at : (minus : Bool) (before after : List ℕ) (parts : List (List ℕ)) →
+    slice_split (λ b. b == 46) after ≡ parts →
     short_parts minus (before ∷ parts) ≡
     (if are_digits 3 before && are_digits 9 after then Some (signed minus (nanos before after)) else None)
 short_parts-at minus before after [] is = absurd (omega (arith, length-slice_split (λ b. b == 46) after, ap length is))

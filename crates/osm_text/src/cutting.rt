@@ -14,7 +14,8 @@ fn place_of(bytes: &[u8], byte: u8) -> Option<usize>
 /// The bytes before the first `byte` and those after it; `None` where it isn't there.
 pub fn first_part(bytes: &[u8], byte: u8) -> Option<(&[u8], &[u8])>
     ensures none { IfNone result (slice_split (λ b. b == byte) bytes.now ≡ bytes.now ∷ []) }
-    ensures some { IfSome result (λ p. slice_split (λ b. b == byte) bytes.now ≡ p.0.now ∷ slice_split (λ b. b == byte) p.1.now) }
+    ensures some { IfSome result (λ p.
+        slice_split (λ b. b == byte) bytes.now ≡ p.0.now ∷ slice_split (λ b. b == byte) p.1.now) }
     ensures shorter { IfSome result (λ p. length p.1.now < length bytes.now) }
 {
     match place_of(bytes, byte) {

@@ -17,7 +17,7 @@ fn digit_of(byte: u8) -> Option<u64>
     }
 }
 
-/// The size with one digit more at its end.
+/// The size with one digit more at its end; past 2^63 it stays 2^63 + 1.
 fn longer(size: u64, digit: u64) -> u64
     requires size { size ≤ 2 ^ 63 + 1 }
     requires digit { digit < 10 }
@@ -33,7 +33,9 @@ fn longer(size: u64, digit: u64) -> u64
 /// The number that the digits write, and 2^63 + 1 for each that is larger; `None` where a byte is
 /// no digit, and for no bytes.
 pub(crate) fn size_of_digits(bytes: &[u8]) -> Option<u64>
-    ensures { result ≡ (if are_digits (length bytes.now) bytes.now then Some (min (digits_value 10 bytes.now) (2 ^ 63 + 1)) else None) }
+    ensures { result ≡ (
+        if are_digits (length bytes.now) bytes.now
+        then Some (min (digits_value 10 bytes.now) (2 ^ 63 + 1)) else None) }
 {
     if bytes.is_empty() {
         return None;
@@ -52,7 +54,8 @@ pub(crate) fn size_of_digits(bytes: &[u8]) -> Option<u64>
 /// than `most`.
 pub(crate) fn read_digits(bytes: &[u8], most: usize) -> Option<u64>
     requires { most ≤ 18 }
-    ensures value { result ≡ (if are_digits most bytes.now then Some (digits_value 10 bytes.now) else None) }
+    ensures value { result ≡ (
+        if are_digits most bytes.now then Some (digits_value 10 bytes.now) else None) }
     ensures size { IfSome result (λ n. n < 10 ^ most) }
     ensures places { IfSome result (λ _. length bytes.now ≤ most) }
 {

@@ -12,3 +12,6 @@ pub use cutting::first_part;
 pub use laws::{short_reads_back, whole_reads_back};
 pub use nano::{read_nano, write_nano};
 pub use whole::{BadNumber, read_whole, write_whole};
+
+#[cfg(test)]
+mod tests;

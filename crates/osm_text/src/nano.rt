@@ -1,6 +1,6 @@
 //! Degrees as texts, as `-0.1277`, both ways: decimal numbers, and nanodegrees, of which there are
 //! 10^9 to a degree.
-ghost use Rattle.std.specs.Prelude.{◌≡◌, ◌<◌, ◌++◌, ◌/◌, ◌%◌, [], OnOk, OnErr, codes, decimal, int_lt, nat_abs, pos, take, ◌≤◌, ◌*◌, ◌-◌, ◌^◌, ◌==◌, ◌&&◌, ℕ, Bool, None, Some, IfSome, length, if◌then◌else◌};
+ghost use Rattle.std.specs.Prelude.{◌≡◌, ◌<◌, ◌≤◌, ◌-◌, ◌*◌, ◌^◌, ◌==◌, ◌&&◌, ◌++◌, ℕ, pos, nat_abs, int_lt, Bool, [], length, take, codes, decimal, if◌then◌else◌, None, Some, IfSome, OnOk, OnErr};
 ghost use Rattle.std.specs.List.{slice_split};
 ghost use Rattle.std.specs.Option.{option_map};
 ghost use Rattle.std.specs.Result.{result_ok};
@@ -39,7 +39,9 @@ fn scaled(fraction: u64, places: usize) -> u64
 
 /// The nanodegrees of the digits before and after a point.
 fn nanos_of(before: &[u8], after: &[u8]) -> Option<u64>
-    ensures value { result ≡ (if are_digits 3 before.now && are_digits 9 after.now then Some (nanos before.now after.now) else None) }
+    ensures value { result ≡ (
+        if are_digits 3 before.now && are_digits 9 after.now
+        then Some (nanos before.now after.now) else None) }
     ensures size { IfSome result (λ n. n < 2 ^ 63) }
 {
     let degrees = read_digits(before, 3)?;
@@ -49,7 +51,8 @@ fn nanos_of(before: &[u8], after: &[u8]) -> Option<u64>
 
 /// The nanodegrees of a number without its sign.
 fn size_of_short(unsigned: &[u8]) -> Option<u64>
-    ensures value { (minus : Bool) → option_map (signed minus) result ≡ short_parts minus (slice_split (λ b. b == 46) unsigned.now) }
+    ensures value { (minus : Bool) → option_map (signed minus) result
+        ≡ short_parts minus (slice_split (λ b. b == 46) unsigned.now) }
     ensures size { IfSome result (λ n. n < 2 ^ 63) }
 {
     match first_part(unsigned, b'.') {
@@ -106,8 +109,8 @@ fn write_parts(out: &mut Bytes, n: i64) -> Result<(), NoMemory>
     write_fraction(out, size % DEGREE)
 }
 
-/// Appends nanodegrees as degrees, as `-0.1277`: whole degrees, and after a point as many digits as
-/// are needed. At `Err` nothing is appended.
+/// Appends nanodegrees, up to 10^18 in size, as degrees, as `-0.1277`: whole degrees, and after a
+/// point as many digits as are needed. At `Err` nothing is appended.
 pub fn write_nano(out: &mut Bytes, n: i64) -> Result<(), NoMemory>
     requires { nat_abs n ≤ 10 ^ 18 }
     ensures ok { OnOk result (out.new ≡ out.old ++ nano_text n) }

@@ -3,7 +3,8 @@ ghost use Rattle.std.specs.Prelude.{◌≡◌, ℕ, ◌<◌, ◌≤◌, List, dr
 
 use crate::memory::plan::Turns;
 use crate::outside::{Failed, Source};
-use osm_entity::{Bytes, Text};
+use osm_entity::{Bytes, NoMemory, Text};
+use std::alloc::Global;
 
 /// A source in memory: the bytes of a file, how far they are given, and which of its pulls fail.
 #[derive(Debug, Drop)]
@@ -21,16 +22,62 @@ pub struct MemorySource {
     pub(crate) ghost paced: { 0 < piece },
 }
 
+impl MemorySource {
+    ghost use Rattle.std.specs.Prelude.{[], IfOk};
+
+    /// A source that has given nothing yet, with copies of the name and the bytes.
+    pub(crate) fn new(
+        alloc: Global,
+        name: &Text,
+        bytes: &Bytes,
+        piece: u32,
+        turns: Turns,
+    ) -> Result<MemorySource, NoMemory>
+        requires { 0 < piece }
+        ensures name { IfOk result (λ s. s.name ≡ name.now) }
+        ensures bytes { IfOk result (λ s. s.bytes ≡ bytes.now) }
+        ensures fresh { IfOk result (λ s. (s.place ≡ 0) × (s.given ≡ 0) × (s.faults ≡ 0)) }
+    {
+        Ok(MemorySource {
+            name: name.copy(alloc)?,
+            bytes: Bytes::from_slice(alloc, bytes.as_slice())?,
+            place: 0,
+            piece,
+            turns,
+            given: 0,
+            faults: 0,
+        })
+    }
+}
+
 impl Source for MemorySource {
+    ghost use Rattle.std.specs.Prelude.{IfOk, OnErr, Ok, min};
+    ghost use Rattle.std.specs.Io.KnownBytes.{IsAtEnd};
+    ghost use Rattle.osm_host.specs.Contents.{PullGives};
+    ghost use Rattle.osm_host.specs.Counts.{raised, CountsFailure};
+    ghost use Rattle.osm_host.specs.Memory.{left_of, rest_of, pull_size};
+
     ghost name = { λ s. s.name };
 
-    ghost rest = { λ s. Some (drop s.place s.bytes) };
+    ghost rest = { rest_of };
 
     ghost given = { λ s. s.given };
 
     ghost faults = { λ s. s.faults };
 
-    fn pull(&mut self, buf: &mut [u8]) -> Result<usize, Failed> {
+    /// Gives as many bytes as its piece, `buf` and what is left allow.
+    /// After `Failed` all is left, and it may be called again.
+    fn pull(&mut self, buf: &mut [u8]) -> Result<usize, Failed>
+        requires { 0 < length buf.old }
+        ensures name { self.new.name ≡ self.old.name }
+        ensures fits { IfOk result (λ n. n ≤ length buf.new) }
+        ensures gives { PullGives result buf.new (rest_of self.old) (rest_of self.new) }
+        ensures most { IfOk result (λ n. n ≡ pull_size (left_of self.old) buf.old self.old.piece) }
+        ensures end { result ≡ Ok 0 → IsAtEnd (rest_of self.new) }
+        ensures given { IfOk result (λ n. self.new.given ≡ raised self.old.given n) }
+        ensures idle { OnErr result (self.new.given ≡ self.old.given) }
+        ensures faults { CountsFailure result self.old.faults self.new.faults }
+    {
         if self.turns.fails() {
             self.faults = self.faults.saturating_add(1);
             return Err(Failed);

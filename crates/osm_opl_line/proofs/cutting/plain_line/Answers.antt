@@ -1,7 +1,7 @@
 use Rattle.std.proofs.Common.{◌≡◌, Some, subst, sym}
 use Rattle.std.specs.Prelude.{IfSome, IfNone}
 use Rattle.std.specs.Option.{option_and_then}
-use Rattle.osm_opl_line.specs.Line.{fields_of, pieces, item_of, said_by, Bad}
+use Rattle.osm_opl_line.specs.Line.{pieces, item_of, said_by, Bad}
 use Rattle.osm_entity.specs.declared.verdict.Cause.TheVariants.{NotBuilt}
 use Rattle.osm_opl_line.proofs.CuttingLemmas.{fields_of-pieces}
 use Rattle.osm_opl_line.proofs.cutting.plain_line.Goals as goal

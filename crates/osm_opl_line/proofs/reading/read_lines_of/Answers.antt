@@ -27,15 +27,17 @@ returns-in-Some-2-clause-value c = ends c
 pub returns-in-Some-2-clause-plain : goal.returns-in-Some-2-clause-plain
 returns-in-Some-2-clause-plain c =
     items-plain c.args.flow c.args.bytes.now c.args.clean
-    (reading_seen (record { items = c.take_line.new.items; ending = BadLine c.in-Some-2.cause c.loop-line.number })) (ends c)
+    (reading_seen (record { items = c.take_line.new.items; ending = BadLine c.in-Some-2.cause c.loop-line.number }))
+    (ends c)
 
 pub loop-line-preserved : goal.loop-line-preserved
 loop-line-preserved c =
     let passes = rw c.in_default-2.is at c.in_ok-cause.ensures.none in
     record {
       known =
-          after-passed (opl_reading c.args.flow c.args.bytes.now c.args.clean) c.args.flow c.args.clean c.loop-line.number
-          c.loop-line.rest.now c.in-Some.line.now c.in-Some.more.now c.loop-line.items c.take_line.new.items
+          after-passed (opl_reading c.args.flow c.args.bytes.now c.args.clean) c.args.flow c.args.clean
+          c.loop-line.number c.loop-line.rest.now c.in-Some.line.now c.in-Some.more.now c.loop-line.items
+          c.take_line.new.items
           c.loop-line.invariant.known c.in-Some.ensures.some passes;
       counted = omega (arith, c.in-Some.ensures.shorter);
     }

@@ -17,7 +17,8 @@ split-position test bytes k is =
     rw (kept.0, take_rest) (slice_split_first test bytes 0 within)
 
 -- without a position the bytes are their only part
-split-no_position : (test : ℕ → Bool) (bytes : List ℕ) → None ≡ position test bytes → slice_split test bytes ≡ bytes ∷ []
+split-no_position : (test : ℕ → Bool) (bytes : List ℕ) → None ≡ position test bytes →
+    slice_split test bytes ≡ bytes ∷ []
 split-no_position test bytes is =
     let at_end = ltb-false (position_or_len test bytes) (length bytes)
     (kept_none (nat_lt (position_or_len test bytes) (length bytes)) (position_or_len test bytes) is) in

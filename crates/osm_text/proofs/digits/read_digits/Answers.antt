@@ -3,7 +3,8 @@ use Rattle.osm_text.proofs.DigitsLemmas.{short_digits, digits-size}
 use Rattle.osm_text.proofs.digits.read_digits.Goals as goal
 
 pub returns-clause-value : goal.returns-clause-value
-returns-clause-value c = c.size_of_digits.ensures ∙ short_digits c.args.most c.args.bytes.now (omega arith) (omega arith)
+returns-clause-value c =
+    c.size_of_digits.ensures ∙ short_digits c.args.most c.args.bytes.now (omega arith) (omega arith)
 
 pub returns-clause-size : goal.returns-clause-size
 returns-clause-size c =

@@ -4,7 +4,8 @@ use Rattle.std.proofs.lemmas.List.{take-append-drop, take-replicate, append-nil}
 use Rattle.osm_text.proofs.fraction.pointed_digits.Goals as goal
 
 -- a list is what stands before a place and what stands from it on
-joined : (bytes front back : List ℕ) (start : ℕ) → take start bytes ≡ front → drop start bytes ≡ back → bytes ≡ front ++ back
+joined : (bytes front back : List ℕ) (start : ℕ) →
+    take start bytes ≡ front → drop start bytes ≡ back → bytes ≡ front ++ back
 joined bytes front back start before after = let whole = take-append-drop start bytes in cc
 
 pub write_digits-requires : goal.write_digits-requires
@@ -12,10 +13,11 @@ write_digits-requires c = (length-decimal-le 10 c.args.n (omega arith) (omega ar
 
 pub returns : goal.returns
 returns c =
-    let places = length (decimal c.args.n) in
     let fits : length (decimal c.args.n) ≤ 9 = length-decimal-le 9 c.args.n (omega arith) (omega arith) (omega arith) in
-    let start : c.write_digits.result ≡ suc (9 - length (decimal c.args.n)) = omega (arith, c.write_digits.ensures.start) in
+    let start : c.write_digits.result ≡ suc (9 - length (decimal c.args.n)) =
+    omega (arith, c.write_digits.ensures.start) in
     let zeros = take-replicate (9 - length (decimal c.args.n)) 9 48 (omega arith) in
-    joined c.write_digits.new.buf (46 ∷ replicate (9 - length (decimal c.args.n)) 48) (decimal c.args.n) c.write_digits.result
-    (c.write_digits.ensures.before ∙ rw start (ap (λ z. 46 ∷ z) zeros))
+    joined c.write_digits.new.buf (46 ∷ replicate (9 - length (decimal c.args.n)) 48) (decimal c.args.n)
+    c.write_digits.result
+    (c.write_digits.ensures.before ∙ rw start (ap (λ digits. 46 ∷ digits) zeros))
     (c.write_digits.ensures.written ∙ append-nil _)

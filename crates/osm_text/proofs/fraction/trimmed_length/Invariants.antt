@@ -5,7 +5,8 @@ use Rattle.osm_text.proofs.fraction.trimmed_length.Given as goal
 abbrev pub invariant-loop-count : goal.invariant-loop-count
 invariant-loop-count l = record {
   within : l.count ≤ length l.digits;
-  zeros : length l.digits - suffix_len (λ c. c == 48) l.digits ≡ l.count - suffix_len (λ c. c == 48) (take l.count l.digits);
+  zeros : length l.digits - suffix_len (λ c. c == 48) l.digits ≡
+      l.count - suffix_len (λ c. c == 48) (take l.count l.digits);
 }
 
 abbrev pub decreases-loop-count : goal.decreases-loop-count

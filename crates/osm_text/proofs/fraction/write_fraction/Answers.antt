@@ -18,6 +18,7 @@ take-pointed n places text some small is count =
 
 pub returns-clause-ok : goal.returns-clause-ok
 returns-clause-ok c =
-    let text = take-pointed c.args.n c.trimmed_length-places.result c.pointed_digits-text.result c.if-n-eq0.false (omega arith)
+    let text = take-pointed c.args.n c.trimmed_length-places.result c.pointed_digits-text.result
+    c.if-n-eq0.false (omega arith)
     c.pointed_digits-text.ensures c.trimmed_length-places.ensures in
     rw text at c.append.ensures.ok

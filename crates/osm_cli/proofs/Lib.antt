@@ -1,0 +1,10 @@
+pub mod PullLemmas
+pub mod PutLemmas
+pub mod ReadLemmas
+pub mod CountLemmas
+pub mod KnownLemmas
+pub mod FileLemmas
+pub mod FaultLemmas
+pub mod OutcomeLemmas
+pub mod WordLemmas
+pub mod CauseLemmas

@@ -1,0 +1,11 @@
+pub mod Causes
+pub mod Codes
+pub mod Copying
+pub mod Course
+pub mod Faults
+pub mod Gathered
+pub mod Outcome
+pub mod Plan
+pub mod Pulling
+pub mod Reading
+pub mod Tasks
