@@ -54,7 +54,8 @@ copy_course a b (Gave name bytes clean unpulled ∷ Took other unput unkept ∷ 
       unpulled = unpulled;
       unput = unput;
       unkept = unkept;
-      is = ap (λ n. Gave n bytes clean unpulled ∷ Took other unput unkept ∷ []) from ∙ ap (λ n. Gave a bytes clean unpulled ∷ Took n unput unkept ∷ []) to;
+      is = ap (λ n. Gave n bytes clean unpulled ∷ Took other unput unkept ∷ []) from
+          ∙ ap (λ n. Gave a bytes clean unpulled ∷ Took n unput unkept ∷ []) to;
     }
 copy_course a b (Gave name bytes clean unpulled ∷ Took other unput unkept ∷ part ∷ tail) planned = cc
 
@@ -69,13 +70,17 @@ record AfterCopy (a b : List ℕ) (before after : Moment) (status : Status) : Ty
   whole : clean ≡ true → unpulled ≡ false
   cut : (reading_of bytes clean).ending ≡ ReadCut → length bytes ≤ source_limit → unpulled ≡ true
   ends : status.ends ≡ record { task = 0; given = length bytes; clean = clean } ∷ []
-  fault : status.fault ≡ fault_by_verdict (verdict_of (reading_of bytes clean).ending (length bytes)) unput (left_by unkept)
-  counts : (op : Op) (n : List ℕ) → CountsBy (any_failed (Gave a bytes clean unpulled ∷ Took b unput unkept ∷ []) op n) (before.count op n) (after.count op n)
+  fault : status.fault ≡ fault_by_verdict (verdict_of (reading_of bytes clean).ending (length bytes)) unput
+      (left_by unkept)
+  counts : (op : Op) (n : List ℕ) → CountsBy (any_failed (Gave a bytes clean unpulled ∷ Took b unput unkept ∷
+      []) op n) (before.count op n) (after.count op n)
 
-after_copy : (a b : List ℕ) (before after : Moment) (status : Status) → AfterTasks (copy_plan a b) copied before after status → AfterCopy a b before after status
+after_copy : (a b : List ℕ) (before after : Moment) (status : Status) →
+    AfterTasks (copy_plan a b) copied before after status → AfterCopy a b before after status
 after_copy a b before after status tasks =
     let c : IsCopyCourse a b tasks.course = copy_course a b tasks.course tasks.planned in
-    let pulls : (c.clean ≡ true → c.unpulled ≡ false) × (reader_finish (reading_of c.bytes c.clean).ending ≡ Cut → length c.bytes ≤ source_limit → c.unpulled ≡ true) =
+    let pulls : (c.clean ≡ true → c.unpulled ≡ false) × (reader_finish (reading_of c.bytes c.clean).ending ≡ Cut →
+    length c.bytes ≤ source_limit → c.unpulled ≡ true) =
     (subst (λ course. AllByRecursion (PullsAs (copied course)) (numbered course)) c.is tasks.pulls).0 in
     record {
       bytes = c.bytes;
@@ -87,8 +92,10 @@ after_copy a b before after status tasks =
       whole = pulls.0;
       cut = λ is. pulls.1 (ap reader_finish is);
       ends = tasks.ends ∙ ap ends_of c.is;
-      fault = tasks.fault ∙ ap (λ course. fault_of (copied course) course) c.is ∙ fault_of_copy (reading_of c.bytes c.clean) a b c.bytes c.clean c.unpulled c.unput c.unkept;
-      counts = λ op n. subst (λ course. CountsBy (any_failed course op n) (before.count op n) (after.count op n)) c.is (tasks.counts op n);
+      fault = tasks.fault ∙ ap (λ course. fault_of (copied course) course) c.is
+          ∙ fault_of_copy (reading_of c.bytes c.clean) a b c.bytes c.clean c.unpulled c.unput c.unkept;
+      counts = λ op n. subst (λ course. CountsBy (any_failed course op n) (before.count op n)
+          (after.count op n)) c.is (tasks.counts op n);
     }
 
 -- what holds of the one element of a list
@@ -106,23 +113,30 @@ record IsReadFault (ending : Ending) (count task : ℕ) : Type 0 where
   is_cut : ending ≡ ReadCut
   within : count ≤ source_limit
 
-cut_read_fault : (count task : ℕ) (unput unkept b : Bool) → nat_lt source_limit count ≡ b → fault_by_verdict (if b then TooMuch else NotRead) unput (left_by unkept) ≡ Device task ReadCall → IsReadFault ReadCut count task
+cut_read_fault : (count task : ℕ) (unput unkept b : Bool) → nat_lt source_limit count ≡ b →
+    fault_by_verdict (if b then TooMuch else NotRead) unput (left_by unkept) ≡ Device task ReadCall →
+    IsReadFault ReadCut count task
 cut_read_fault count task unput unkept true past is = cc
-cut_read_fault count task unput unkept false past is = let same : 0 ≡ task = cc in record { is_first = sym same; is_cut = refl; within = ltb-false source_limit count past }
+cut_read_fault count task unput unkept false past is = let same : 0 ≡ task = cc in
+    record { is_first = sym same; is_cut = refl; within = ltb-false source_limit count past }
 
-read_fault : (ending : Ending) (count task : ℕ) (unput unkept : Bool) → copy_fault ending count unput unkept ≡ Device task ReadCall → IsReadFault ending count task
+read_fault : (ending : Ending) (count task : ℕ) (unput unkept : Bool) →
+    copy_fault ending count unput unkept ≡ Device task ReadCall → IsReadFault ending count task
 read_fault ReadWhole count task true unkept is = cc
 read_fault ReadWhole count task false true is = cc
 read_fault ReadWhole count task false false is = cc
-read_fault ReadCut count task unput unkept is = cut_read_fault count task unput unkept (nat_lt source_limit count) refl is
+read_fault ReadCut count task unput unkept is = cut_read_fault count task unput unkept
+    (nat_lt source_limit count) refl is
 read_fault (BadLine cause line) count task unput unkept is = cc
 
 -- a failed writing: a put failed
-cut_write_fault : (task : ℕ) (unput unkept b : Bool) → fault_by_verdict (if b then TooMuch else NotRead) unput (left_by unkept) ≡ Device task WriteCall → (task ≡ 1) × (unput ≡ true)
+cut_write_fault : (task : ℕ) (unput unkept b : Bool) → fault_by_verdict (if b then TooMuch else NotRead) unput
+    (left_by unkept) ≡ Device task WriteCall → (task ≡ 1) × (unput ≡ true)
 cut_write_fault task unput unkept true is = cc
 cut_write_fault task unput unkept false is = cc
 
-write_fault_is : (ending : Ending) (count task : ℕ) (unput unkept : Bool) → copy_fault ending count unput unkept ≡ Device task WriteCall → (task ≡ 1) × (unput ≡ true)
+write_fault_is : (ending : Ending) (count task : ℕ) (unput unkept : Bool) →
+    copy_fault ending count unput unkept ≡ Device task WriteCall → (task ≡ 1) × (unput ≡ true)
 write_fault_is ReadWhole count task true unkept is = let same : 1 ≡ task = cc in (sym same, refl)
 write_fault_is ReadWhole count task false true is = cc
 write_fault_is ReadWhole count task false false is = cc
@@ -130,11 +144,13 @@ write_fault_is ReadCut count task unput unkept is = cut_write_fault task unput u
 write_fault_is (BadLine cause line) count task unput unkept is = cc
 
 -- a failed keep
-cut_keep_fault : (task : ℕ) (unput unkept b : Bool) → fault_by_verdict (if b then TooMuch else NotRead) unput (left_by unkept) ≡ Device task KeepCall → (task ≡ 1) × (unkept ≡ true)
+cut_keep_fault : (task : ℕ) (unput unkept b : Bool) → fault_by_verdict (if b then TooMuch else NotRead) unput
+    (left_by unkept) ≡ Device task KeepCall → (task ≡ 1) × (unkept ≡ true)
 cut_keep_fault task unput unkept true is = cc
 cut_keep_fault task unput unkept false is = cc
 
-keep_fault_is : (ending : Ending) (count task : ℕ) (unput unkept : Bool) → copy_fault ending count unput unkept ≡ Device task KeepCall → (task ≡ 1) × (unkept ≡ true)
+keep_fault_is : (ending : Ending) (count task : ℕ) (unput unkept : Bool) →
+    copy_fault ending count unput unkept ≡ Device task KeepCall → (task ≡ 1) × (unkept ≡ true)
 keep_fault_is ReadWhole count task true unkept is = cc
 keep_fault_is ReadWhole count task false true is = let same : 1 ≡ task = cc in (sym same, refl)
 keep_fault_is ReadWhole count task false false is = cc
@@ -142,15 +158,20 @@ keep_fault_is ReadCut count task unput unkept is = cut_keep_fault task unput unk
 keep_fault_is (BadLine cause line) count task unput unkept is = cc
 
 -- a wrong input: the reader's bad line
-cut_input_fault : (task : ℕ) (cause : Cause) (spot : Spot) (unput unkept b : Bool) → fault_by_verdict (if b then TooMuch else NotRead) unput (left_by unkept) ≡ Input task cause spot → (task ≡ 0) × (Cut ≡ Wrong cause spot)
+cut_input_fault : (task : ℕ) (cause : Cause) (spot : Spot) (unput unkept b : Bool) →
+    fault_by_verdict (if b then TooMuch else NotRead) unput (left_by unkept) ≡ Input task cause spot →
+    (task ≡ 0) × (Cut ≡ Wrong cause spot)
 cut_input_fault task cause spot unput unkept true is = cc
 cut_input_fault task cause spot unput unkept false is = cc
 
-input_fault : (ending : Ending) (count task : ℕ) (cause : Cause) (spot : Spot) (unput unkept : Bool) → copy_fault ending count unput unkept ≡ Input task cause spot → (task ≡ 0) × (reader_finish ending ≡ Wrong cause spot)
+input_fault : (ending : Ending) (count task : ℕ) (cause : Cause) (spot : Spot) (unput unkept : Bool) →
+    copy_fault ending count unput unkept ≡ Input task cause spot →
+    (task ≡ 0) × (reader_finish ending ≡ Wrong cause spot)
 input_fault ReadWhole count task cause spot true unkept is = cc
 input_fault ReadWhole count task cause spot false true is = cc
 input_fault ReadWhole count task cause spot false false is = cc
-input_fault ReadCut count task cause spot unput unkept is = cut_input_fault task cause spot unput unkept (nat_lt source_limit count) is
+input_fault ReadCut count task cause spot unput unkept is = cut_input_fault task cause spot unput unkept
+    (nat_lt source_limit count) is
 input_fault (BadLine why line) count task cause spot unput unkept is =
     let same : 0 ≡ task = cc in
     let same_cause : why ≡ cause = cc in
@@ -158,15 +179,20 @@ input_fault (BadLine why line) count task cause spot unput unkept is =
     (sym same, ap (λ c. Wrong c (Line line)) same_cause ∙ ap (Wrong cause) same_spot)
 
 -- too long: the source gave more than the limit
-cut_too_long : (count task : ℕ) (unput unkept b : Bool) → nat_lt source_limit count ≡ b → fault_by_verdict (if b then TooMuch else NotRead) unput (left_by unkept) ≡ TooLong task → (task ≡ 0) × (source_limit < count)
-cut_too_long count task unput unkept true past is = let same : 0 ≡ task = cc in (sym same, ltb-true source_limit count past)
+cut_too_long : (count task : ℕ) (unput unkept b : Bool) → nat_lt source_limit count ≡ b →
+    fault_by_verdict (if b then TooMuch else NotRead) unput (left_by unkept) ≡ TooLong task →
+    (task ≡ 0) × (source_limit < count)
+cut_too_long count task unput unkept true past is = let same : 0 ≡ task = cc in
+    (sym same, ltb-true source_limit count past)
 cut_too_long count task unput unkept false past is = cc
 
-too_long_fault : (ending : Ending) (count task : ℕ) (unput unkept : Bool) → copy_fault ending count unput unkept ≡ TooLong task → (task ≡ 0) × (source_limit < count)
+too_long_fault : (ending : Ending) (count task : ℕ) (unput unkept : Bool) →
+    copy_fault ending count unput unkept ≡ TooLong task → (task ≡ 0) × (source_limit < count)
 too_long_fault ReadWhole count task true unkept is = cc
 too_long_fault ReadWhole count task false true is = cc
 too_long_fault ReadWhole count task false false is = cc
-too_long_fault ReadCut count task unput unkept is = cut_too_long count task unput unkept (nat_lt source_limit count) refl is
+too_long_fault ReadCut count task unput unkept is = cut_too_long count task unput unkept
+    (nat_lt source_limit count) refl is
 too_long_fault (BadLine cause line) count task unput unkept is = cc
 
 -- no fault: the reading is whole, and nothing failed
@@ -175,11 +201,13 @@ record IsNoFault (ending : Ending) (unput unkept : Bool) : Type 0 where
   put : unput ≡ false
   kept : unkept ≡ false
 
-cut_no_fault : (unput unkept b : Bool) → fault_by_verdict (if b then TooMuch else NotRead) unput (left_by unkept) ≡ Clean → IsNoFault ReadCut unput unkept
+cut_no_fault : (unput unkept b : Bool) → fault_by_verdict (if b then TooMuch else NotRead) unput
+    (left_by unkept) ≡ Clean → IsNoFault ReadCut unput unkept
 cut_no_fault unput unkept true is = cc
 cut_no_fault unput unkept false is = cc
 
-no_fault : (ending : Ending) (count : ℕ) (unput unkept : Bool) → copy_fault ending count unput unkept ≡ Clean → IsNoFault ending unput unkept
+no_fault : (ending : Ending) (count : ℕ) (unput unkept : Bool) → copy_fault ending count unput unkept ≡ Clean →
+    IsNoFault ending unput unkept
 no_fault ReadWhole count true unkept is = cc
 no_fault ReadWhole count false true is = cc
 no_fault ReadWhole count false false is = record { is_whole = refl; put = refl; kept = refl }
@@ -187,11 +215,13 @@ no_fault ReadCut count unput unkept is = cut_no_fault unput unkept (nat_lt sourc
 no_fault (BadLine cause line) count unput unkept is = cc
 
 -- tasks that ran are no fault of words
-cut_not_built : (task : ℕ) (unput unkept b : Bool) → fault_by_verdict (if b then TooMuch else NotRead) unput (left_by unkept) ≡ NotBuilt task → ⊥
+cut_not_built : (task : ℕ) (unput unkept b : Bool) → fault_by_verdict (if b then TooMuch else NotRead) unput
+    (left_by unkept) ≡ NotBuilt task → ⊥
 cut_not_built task unput unkept true is = cc
 cut_not_built task unput unkept false is = cc
 
-not_not_built : (ending : Ending) (count task : ℕ) (unput unkept : Bool) → copy_fault ending count unput unkept ≡ NotBuilt task → ⊥
+not_not_built : (ending : Ending) (count task : ℕ) (unput unkept : Bool) →
+    copy_fault ending count unput unkept ≡ NotBuilt task → ⊥
 not_not_built ReadWhole count task true unkept is = cc
 not_not_built ReadWhole count task false true is = cc
 not_not_built ReadWhole count task false false is = cc
@@ -199,7 +229,8 @@ not_not_built ReadCut count task unput unkept is = cut_not_built task unput unke
 not_not_built (BadLine cause line) count task unput unkept is = cc
 
 -- a call that failed raised its count
-rose_if : (failed at other : Bool) (before after : ℕ) → failed ≡ true → at ≡ true → CountsBy ((failed && at) || other) before after → Rose before after
+rose_if : (failed at other : Bool) (before after : ℕ) → failed ≡ true → at ≡ true →
+    CountsBy ((failed && at) || other) before after → Rose before after
 rose_if true true other before after is_failed is_at by = by.rose
 rose_if true false other before after is_failed is_at by = cc
 rose_if false at other before after is_failed is_at by = cc
@@ -210,78 +241,107 @@ whole_is_clean bytes true is = refl
 whole_is_clean bytes false is = absurd (not_whole Entities (take source_limit bytes) is)
 
 -- where nothing failed, no count changed
-none_failed : (a b bytes : List ℕ) (clean : Bool) (op : Op) (n : List ℕ) → any_failed (Gave a bytes clean false ∷ Took b false false ∷ []) op n ≡ false
+none_failed : (a b bytes : List ℕ) (clean : Bool) (op : Op) (n : List ℕ) →
+    any_failed (Gave a bytes clean false ∷ Took b false false ∷ []) op n ≡ false
 none_failed a b bytes clean Open n = refl
 none_failed a b bytes clean Make n = refl
 none_failed a b bytes clean Pull n = refl
 none_failed a b bytes clean Put n = refl
 none_failed a b bytes clean Keep n = refl
 
-counts_same : (a b bytes : List ℕ) (clean unpulled unput unkept : Bool) (op : Op) (n : List ℕ) (before after : ℕ) → unpulled ≡ false → unput ≡ false → unkept ≡ false → CountsBy (any_failed (Gave a bytes clean unpulled ∷ Took b unput unkept ∷ []) op n) before after → after ≡ before
-counts_same a b bytes clean false false false op n before after e0 e1 e2 by = subst (λ failed. CountsBy failed before after) (none_failed a b bytes clean op n) by
+counts_same : (a b bytes : List ℕ) (clean unpulled unput unkept : Bool) (op : Op) (n : List ℕ) (before after : ℕ) →
+    unpulled ≡ false → unput ≡ false → unkept ≡ false → CountsBy (any_failed
+    (Gave a bytes clean unpulled ∷ Took b unput unkept ∷ []) op n) before after → after ≡ before
+counts_same a b bytes clean false false false op n before after e0 e1 e2 by = subst
+    (λ failed. CountsBy failed before after) (none_failed a b bytes clean op n) by
 counts_same a b bytes clean true unput unkept op n before after e0 e1 e2 by = cc
 counts_same a b bytes clean false true unkept op n before after e0 e1 e2 by = cc
 counts_same a b bytes clean false false true op n before after e0 e1 e2 by = cc
 
 module _ (a b : List ℕ) (before after : Moment) (status : Status) where
-  ran : (fault : Fault) → status.fault ≡ fault → AfterFault (copy_plan a b) copied before after status status.fault → AfterFault (copy_plan a b) copied before after status fault
+  ran : (fault : Fault) → status.fault ≡ fault → AfterFault (copy_plan a b) copied before after status status.fault →
+      AfterFault (copy_plan a b) copied before after status fault
   ran fault is stands = subst (AfterFault (copy_plan a b) copied before after status) is stands
 
-  pub copy_reads : AfterFault (copy_plan a b) copied before after status status.fault → (task : ℕ) → status.fault ≡ Device task ReadCall → RoseAt (copy_plan a b) Reads Pull before after task × All (λ e. e.task ≡ task → e.clean ≡ false) status.ends
+  pub copy_reads : AfterFault (copy_plan a b) copied before after status status.fault → (task : ℕ) →
+      status.fault ≡ Device task ReadCall → RoseAt (copy_plan a b) Reads Pull before after task × All
+      (λ e. e.task ≡ task → e.clean ≡ false) status.ends
   copy_reads stands task is =
-      let c : AfterCopy a b before after status = after_copy a b before after status (ran (Device task ReadCall) is stands) in
-      let f : IsReadFault (reading_of c.bytes c.clean).ending (length c.bytes) task = read_fault (reading_of c.bytes c.clean).ending (length c.bytes) task c.unput c.unkept (sym c.fault ∙ is) in
+      let c : AfterCopy a b before after status = after_copy a b before after status (ran
+      (Device task ReadCall) is stands) in
+      let f : IsReadFault (reading_of c.bytes c.clean).ending (length c.bytes) task = read_fault
+      (reading_of c.bytes c.clean).ending (length c.bytes) task c.unput c.unkept (sym c.fault ∙ is) in
       let unpulled : c.unpulled ≡ true = c.cut f.is_cut f.within in (
         record {
           name = a;
           is_file = subst (λ t. slice_get (copy_plan a b) t ≡ Some (Reads a)) (sym f.is_first) refl;
-          rose = rose_if c.unpulled (bytes_eq a a) false (before.count Pull a) (after.count Pull a) unpulled (bytes_eq-self a) (c.counts Pull a);
+          rose = rose_if c.unpulled (bytes_eq a a) false (before.count Pull a) (after.count Pull a) unpulled
+              (bytes_eq-self a) (c.counts Pull a);
         },
         subst (All (λ e. e.task ≡ task → e.clean ≡ false)) (sym c.ends)
-            (All-one (λ e. e.task ≡ task → e.clean ≡ false) (record { task = 0; given = length c.bytes; clean = c.clean }) (λ same. not_clean c.clean c.unpulled unpulled c.whole)),
+            (All-one (λ e. e.task ≡ task →
+            e.clean ≡ false) (record { task = 0; given = length c.bytes; clean = c.clean })
+            (λ same. not_clean c.clean c.unpulled unpulled c.whole)),
       ) where
         not_clean : (clean unpulled : Bool) → unpulled ≡ true → (clean ≡ true → unpulled ≡ false) → clean ≡ false
         not_clean true unpulled is_unpulled whole = let no : true ≡ false = sym is_unpulled ∙ whole refl in cc
         not_clean false unpulled is_unpulled whole = refl
 
-  pub copy_writes : AfterFault (copy_plan a b) copied before after status status.fault → (task : ℕ) → status.fault ≡ Device task WriteCall → RoseAt (copy_plan a b) Writes Put before after task
+  pub copy_writes : AfterFault (copy_plan a b) copied before after status status.fault → (task : ℕ) →
+      status.fault ≡ Device task WriteCall → RoseAt (copy_plan a b) Writes Put before after task
   copy_writes stands task is =
-      let c : AfterCopy a b before after status = after_copy a b before after status (ran (Device task WriteCall) is stands) in
-      let f : (task ≡ 1) × (c.unput ≡ true) = write_fault_is (reading_of c.bytes c.clean).ending (length c.bytes) task c.unput c.unkept (sym c.fault ∙ is) in
+      let c : AfterCopy a b before after status = after_copy a b before after status (ran
+      (Device task WriteCall) is stands) in
+      let f : (task ≡ 1) × (c.unput ≡ true) = write_fault_is (reading_of c.bytes c.clean).ending
+      (length c.bytes) task c.unput c.unkept (sym c.fault ∙ is) in
       record {
         name = b;
         is_file = subst (λ t. slice_get (copy_plan a b) t ≡ Some (Writes b)) (sym f.0) refl;
-        rose = rose_if c.unput (bytes_eq b b) false (before.count Put b) (after.count Put b) f.1 (bytes_eq-self b) (c.counts Put b);
+        rose = rose_if c.unput (bytes_eq b b) false (before.count Put b) (after.count Put b) f.1 (bytes_eq-self b)
+            (c.counts Put b);
       }
 
-  pub copy_keeps : AfterFault (copy_plan a b) copied before after status status.fault → (task : ℕ) → status.fault ≡ Device task KeepCall → RoseAt (copy_plan a b) Writes Keep before after task
+  pub copy_keeps : AfterFault (copy_plan a b) copied before after status status.fault → (task : ℕ) →
+      status.fault ≡ Device task KeepCall → RoseAt (copy_plan a b) Writes Keep before after task
   copy_keeps stands task is =
-      let c : AfterCopy a b before after status = after_copy a b before after status (ran (Device task KeepCall) is stands) in
-      let f : (task ≡ 1) × (c.unkept ≡ true) = keep_fault_is (reading_of c.bytes c.clean).ending (length c.bytes) task c.unput c.unkept (sym c.fault ∙ is) in
+      let c : AfterCopy a b before after status = after_copy a b before after status (ran
+      (Device task KeepCall) is stands) in
+      let f : (task ≡ 1) × (c.unkept ≡ true) = keep_fault_is (reading_of c.bytes c.clean).ending
+      (length c.bytes) task c.unput c.unkept (sym c.fault ∙ is) in
       record {
         name = b;
         is_file = subst (λ t. slice_get (copy_plan a b) t ≡ Some (Writes b)) (sym f.0) refl;
-        rose = rose_if c.unkept (bytes_eq b b) false (before.count Keep b) (after.count Keep b) f.1 (bytes_eq-self b) (c.counts Keep b);
+        rose = rose_if c.unkept (bytes_eq b b) false (before.count Keep b) (after.count Keep b) f.1
+            (bytes_eq-self b) (c.counts Keep b);
       }
 
-  pub copy_opens : AfterFault (copy_plan a b) copied before after status status.fault → (task : ℕ) → status.fault ≡ Device task OpenCall → RoseAt (copy_plan a b) Reads Open before after task ⊎ RoseAt (copy_plan a b) Writes Make before after task
+  pub copy_opens : AfterFault (copy_plan a b) copied before after status status.fault → (task : ℕ) →
+      status.fault ≡ Device task OpenCall → RoseAt (copy_plan a b) Reads Open before after task ⊎ RoseAt
+      (copy_plan a b) Writes Make before after task
   copy_opens stands task is = let opening = ran (Device task OpenCall) is stands in by_access opening.0 opening.1 where
-    by_access : (access : Access) → AfterOpening (copy_plan a b) before after status.ends task access → RoseAt (copy_plan a b) Reads Open before after task ⊎ RoseAt (copy_plan a b) Writes Make before after task
+    by_access : (access : Access) → AfterOpening (copy_plan a b) before after status.ends task access →
+        RoseAt (copy_plan a b) Reads Open before after task ⊎ RoseAt (copy_plan a b) Writes Make before after task
     by_access (Reads name) opening = inl (record {
       name = name;
       is_file = opening.planned;
-      rose = (subst (λ at. CountsBy at (before.count Open name) (after.count Open name)) (is_at-self Open name) (opening.counts Open name)).rose;
+      rose = (subst (λ at. CountsBy at (before.count Open name) (after.count Open name)) (is_at-self Open name)
+          (opening.counts Open name)).rose;
     })
     by_access (Writes name) opening = inr (record {
       name = name;
       is_file = opening.planned;
-      rose = (subst (λ at. CountsBy at (before.count Make name) (after.count Make name)) (is_at-self Make name) (opening.counts Make name)).rose;
+      rose = (subst (λ at. CountsBy at (before.count Make name) (after.count Make name)) (is_at-self Make name)
+          (opening.counts Make name)).rose;
     })
 
-  pub copy_inputs : AfterFault (copy_plan a b) copied before after status status.fault → (task : ℕ) (cause : Cause) (spot : Spot) → status.fault ≡ Input task cause spot → IsWrong (copy_plan a b) copied before status task cause spot
+  pub copy_inputs : AfterFault (copy_plan a b) copied before after status status.fault →
+      (task : ℕ) (cause : Cause) (spot : Spot) → status.fault ≡ Input task cause spot →
+      IsWrong (copy_plan a b) copied before status task cause spot
   copy_inputs stands task cause spot is =
-      let c : AfterCopy a b before after status = after_copy a b before after status (ran (Input task cause spot) is stands) in
-      let f : (task ≡ 0) × (reader_finish (reading_of c.bytes c.clean).ending ≡ Wrong cause spot) = input_fault (reading_of c.bytes c.clean).ending (length c.bytes) task cause spot c.unput c.unkept (sym c.fault ∙ is) in
+      let c : AfterCopy a b before after status = after_copy a b before after status (ran
+      (Input task cause spot) is stands) in
+      let f : (task ≡ 0) × (reader_finish (reading_of c.bytes c.clean).ending ≡ Wrong cause spot) = input_fault
+      (reading_of c.bytes c.clean).ending (length c.bytes) task cause spot c.unput c.unkept (sym c.fault ∙ is) in
       subst (λ t. IsWrong (copy_plan a b) copied before status t cause spot) (sym f.0) (record {
         course = Gave a c.bytes c.clean c.unpulled ∷ Took b c.unput c.unkept ∷ [];
         planned = refl;
@@ -291,10 +351,12 @@ module _ (a b : List ℕ) (before after : Moment) (status : Status) where
         first = refl;
       })
 
-  pub copy_too_long : AfterFault (copy_plan a b) copied before after status status.fault → (task : ℕ) → status.fault ≡ TooLong task → GaveTooMuch status.ends task
+  pub copy_too_long : AfterFault (copy_plan a b) copied before after status status.fault → (task : ℕ) →
+      status.fault ≡ TooLong task → GaveTooMuch status.ends task
   copy_too_long stands task is =
       let c : AfterCopy a b before after status = after_copy a b before after status (ran (TooLong task) is stands) in
-      let f : (task ≡ 0) × (source_limit < length c.bytes) = too_long_fault (reading_of c.bytes c.clean).ending (length c.bytes) task c.unput c.unkept (sym c.fault ∙ is) in
+      let f : (task ≡ 0) × (source_limit < length c.bytes) = too_long_fault (reading_of c.bytes c.clean).ending
+      (length c.bytes) task c.unput c.unkept (sym c.fault ∙ is) in
       subst (λ ends. GaveTooMuch ends task) (sym c.ends) (record {
         entry = record { task = 0; given = length c.bytes; clean = c.clean };
         among = Contains-push [] (record { task = 0; given = length c.bytes; clean = c.clean });
@@ -302,41 +364,56 @@ module _ (a b : List ℕ) (before after : Moment) (status : Status) where
         past = f.1;
       })
 
-  pub copy_is_clean : AfterFault (copy_plan a b) copied before after status status.fault → status.fault ≡ Clean → IsCleanRun before after status
+  pub copy_is_clean : AfterFault (copy_plan a b) copied before after status status.fault → status.fault ≡ Clean →
+      IsCleanRun before after status
   copy_is_clean stands is =
       let c : AfterCopy a b before after status = after_copy a b before after status (ran Clean is stands) in
-      let f : IsNoFault (reading_of c.bytes c.clean).ending c.unput c.unkept = no_fault (reading_of c.bytes c.clean).ending (length c.bytes) c.unput c.unkept (sym c.fault ∙ is) in
+      let f : IsNoFault (reading_of c.bytes c.clean).ending c.unput c.unkept = no_fault
+      (reading_of c.bytes c.clean).ending (length c.bytes) c.unput c.unkept (sym c.fault ∙ is) in
       let clean : c.clean ≡ true = whole_is_clean c.bytes c.clean f.is_whole in
       record {
-        ends = subst (All (λ e. e.clean ≡ true)) (sym c.ends) (All-one (λ e. e.clean ≡ true) (record { task = 0; given = length c.bytes; clean = c.clean }) clean);
-        counts = λ op n. counts_same a b c.bytes c.clean c.unpulled c.unput c.unkept op n (before.count op n) (after.count op n) (c.whole clean) f.put f.kept (c.counts op n);
+        ends = subst (All (λ e. e.clean ≡ true)) (sym c.ends) (All-one (λ e. e.clean ≡ true)
+            (record { task = 0; given = length c.bytes; clean = c.clean }) clean);
+        counts = λ op n. counts_same a b c.bytes c.clean c.unpulled c.unput c.unkept op n (before.count op n)
+            (after.count op n) (c.whole clean) f.put f.kept (c.counts op n);
       }
 
-  pub copy_is_built : AfterFault (copy_plan a b) copied before after status status.fault → (task : ℕ) → status.fault ≡ NotBuilt task → ⊥
+  pub copy_is_built : AfterFault (copy_plan a b) copied before after status status.fault → (task : ℕ) →
+      status.fault ≡ NotBuilt task → ⊥
   copy_is_built stands task is =
       let c : AfterCopy a b before after status = after_copy a b before after status (ran (NotBuilt task) is stands) in
       not_not_built (reading_of c.bytes c.clean).ending (length c.bytes) task c.unput c.unkept (sym c.fault ∙ is)
 
-  unclean_cut : (c : AfterCopy a b before after status) (past : Bool) → nat_lt source_limit (length c.bytes) ≡ past → (reading_of c.bytes c.clean).ending ≡ ReadCut → UncleanBy (copy_plan a b) before after status (record { task = 0; given = length c.bytes; clean = c.clean })
+  unclean_cut : (c : AfterCopy a b before after status) (past : Bool) → nat_lt source_limit (length c.bytes) ≡ past →
+      (reading_of c.bytes c.clean).ending ≡ ReadCut → UncleanBy (copy_plan a b) before after status
+      (record { task = 0; given = length c.bytes; clean = c.clean })
   unclean_cut c true past is = AtLimit (ltb-true source_limit (length c.bytes) past)
   unclean_cut c false past is = AtPull (record {
     name = a;
     is_file = refl;
-    rose = rose_if c.unpulled (bytes_eq a a) false (before.count Pull a) (after.count Pull a) (c.cut is (ltb-false source_limit (length c.bytes) past)) (bytes_eq-self a) (c.counts Pull a);
+    rose = rose_if c.unpulled (bytes_eq a a) false (before.count Pull a) (after.count Pull a) (c.cut is
+        (ltb-false source_limit (length c.bytes) past)) (bytes_eq-self a) (c.counts Pull a);
   })
 
-  unclean_by : (c : AfterCopy a b before after status) (ending : Ending) → (reading_of c.bytes c.clean).ending ≡ ending → c.clean ≡ false → UncleanBy (copy_plan a b) before after status (record { task = 0; given = length c.bytes; clean = c.clean })
+  unclean_by : (c : AfterCopy a b before after status) (ending : Ending) →
+      (reading_of c.bytes c.clean).ending ≡ ending → c.clean ≡ false →
+      UncleanBy (copy_plan a b) before after status (record { task = 0; given = length c.bytes; clean = c.clean })
   unclean_by c ReadWhole is unclean = let no : true ≡ false = sym (whole_is_clean c.bytes c.clean is) ∙ unclean in cc
   unclean_by c ReadCut is unclean = unclean_cut c (nat_lt source_limit (length c.bytes)) refl is
-  unclean_by c (BadLine cause line) is unclean = AtWrong cause (Line line) (c.fault ∙ ap (λ e. copy_fault e (length c.bytes) c.unput c.unkept) is)
+  unclean_by c (BadLine cause line) is unclean = AtWrong cause (Line line) (c.fault
+      ∙ ap (λ e. copy_fault e (length c.bytes) c.unput c.unkept) is)
 
-  unclean_tasks : AfterTasks (copy_plan a b) copied before after status → All (λ e. e.clean ≡ false → UncleanBy (copy_plan a b) before after status e) status.ends
+  unclean_tasks : AfterTasks (copy_plan a b) copied before after status → All (λ e. e.clean ≡ false →
+      UncleanBy (copy_plan a b) before after status e) status.ends
   unclean_tasks tasks =
       let c : AfterCopy a b before after status = after_copy a b before after status tasks in
       subst (All (λ e. e.clean ≡ false → UncleanBy (copy_plan a b) before after status e)) (sym c.ends)
-      (All-one (λ e. e.clean ≡ false → UncleanBy (copy_plan a b) before after status e) (record { task = 0; given = length c.bytes; clean = c.clean }) (unclean_by c (reading_of c.bytes c.clean).ending refl))
+      (All-one (λ e. e.clean ≡ false → UncleanBy (copy_plan a b) before after status e)
+      (record { task = 0; given = length c.bytes; clean = c.clean }) (unclean_by c
+      (reading_of c.bytes c.clean).ending refl))
 
-  unclean_at : (fault : Fault) → status.fault ≡ fault → AfterFault (copy_plan a b) copied before after status fault → All (λ e. e.clean ≡ false → UncleanBy (copy_plan a b) before after status e) status.ends
+  unclean_at : (fault : Fault) → status.fault ≡ fault → AfterFault (copy_plan a b) copied before after status fault →
+      All (λ e. e.clean ≡ false → UncleanBy (copy_plan a b) before after status e) status.ends
   unclean_at Memory is stands = λ k d below unclean. AtMemory is
   unclean_at (Device task OpenCall) is stands = λ k d below unclean. AtOpening task is
   unclean_at (Device task ReadCall) is stands = unclean_tasks stands
@@ -347,7 +424,8 @@ module _ (a b : List ℕ) (before after : Moment) (status : Status) where
   unclean_at (Input task cause spot) is stands = unclean_tasks stands
   unclean_at (TooLong task) is stands = unclean_tasks stands
 
-  pub copy_unclean : AfterFault (copy_plan a b) copied before after status status.fault → All (λ e. e.clean ≡ false → UncleanBy (copy_plan a b) before after status e) status.ends
+  pub copy_unclean : AfterFault (copy_plan a b) copied before after status status.fault → All (λ e. e.clean ≡ false →
+      UncleanBy (copy_plan a b) before after status e) status.ends
   copy_unclean stands = unclean_at status.fault refl stands
 
 -- every cause of a run of words, from its outcome
@@ -362,9 +440,15 @@ pub record HasCauses (plan : Option Plan) (before after : Moment) (status : Stat
   pub clean : CleanCause before after status
   pub unclean : UncleanCause plan before after status
 
-copy_causes : (a b : List ℕ) (before after : Moment) (status : Status) → AfterFault (copy_plan a b) copied before after status status.fault → HasCauses (Some (copy_plan a b)) before after status
+copy_causes : (a b : List ℕ) (before after : Moment) (status : Status) →
+    AfterFault (copy_plan a b) copied before after status status.fault →
+    HasCauses (Some (copy_plan a b)) before after status
 copy_causes a b before after status stands = record {
-  not_built = λ task. (λ is. absurd (copy_is_built a b before after status stands task is), λ is. let no : Some (copy_plan a b) ≡ None = is.0 in cc);
+  not_built = λ task. (
+    λ is. absurd (copy_is_built a b before after status stands task is),
+    λ is. let no : Some
+        (copy_plan a b) ≡ None = is.0 in cc,
+  );
   opens = copy_opens a b before after status stands;
   reads = copy_reads a b before after status stands;
   writes = copy_writes a b before after status stands;
@@ -376,6 +460,8 @@ copy_causes a b before after status stands = record {
 }
 
 -- the same, where the words give a copy's plan
-pub causes_of : (plan : Option Plan) (a b : List ℕ) (before after : Moment) (status : Status) → plan ≡ Some (copy_plan a b) → AfterFault (copy_plan a b) copied before after status status.fault → HasCauses plan before after status
+pub causes_of : (plan : Option Plan) (a b : List ℕ) (before after : Moment) (status : Status) →
+    plan ≡ Some (copy_plan a b) → AfterFault (copy_plan a b) copied before after status status.fault →
+    HasCauses plan before after status
 causes_of plan a b before after status is stands =
     subst (λ p. HasCauses p before after status) (sym is) (copy_causes a b before after status stands)

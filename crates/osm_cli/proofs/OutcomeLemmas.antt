@@ -36,7 +36,9 @@ use Rattle.osm_cli.proofs.FileLemmas.{KeptFiles, files_after_keep, files_same, g
 use Rattle.osm_cli.proofs.KnownLemmas.{known_by_open, known_by_opens, known_one_more, known_only, known_only_both}
 
 -- the fault of a status may be told by another word for it
-at_fault : (a b : List ℕ) (before after : Moment) (status : Status) (fault : Fault) → status.fault ≡ fault → AfterFault (copy_plan a b) copied before after status fault → AfterFault (copy_plan a b) copied before after status status.fault
+at_fault : (a b : List ℕ) (before after : Moment) (status : Status) (fault : Fault) → status.fault ≡ fault →
+    AfterFault (copy_plan a b) copied before after status fault →
+    AfterFault (copy_plan a b) copied before after status status.fault
 at_fault a b before after status fault is stands =
     subst (λ f. AfterFault (copy_plan a b) copied before after status f) (sym is) stands
 
@@ -62,7 +64,11 @@ gives_nothing None name unput unkept = tt
 gives_nothing (Some files) name unput unkept = tt
 
 -- memory was wanted before any file changed
-memory_before : (a b : List ℕ) (before after : Moment) (status : Status) → (status.ends ≡ []) ⊎ ReadSoFar (copy_plan a b) before.files status.ends → after.files ≡ before.files → ((o : Op) (n : List ℕ) → after.count o n ≡ before.count o n) → ((n : List ℕ) → after.gave n ≡ before.gave n) → ((n : List ℕ) → Contains before.known n → Contains after.known n) → ((n : List ℕ) → Contains after.known n → Contains (before.known ++ a ∷ b ∷ []) n) → AfterMemory (copy_plan a b) before after status
+memory_before : (a b : List ℕ) (before after : Moment) (status : Status) →
+    (status.ends ≡ []) ⊎ ReadSoFar (copy_plan a b) before.files status.ends → after.files ≡ before.files →
+    ((o : Op) (n : List ℕ) → after.count o n ≡ before.count o n) → ((n : List ℕ) → after.gave n ≡ before.gave n) →
+    ((n : List ℕ) → Contains before.known n → Contains after.known n) → ((n : List ℕ) → Contains after.known n →
+    Contains (before.known ++ a ∷ b ∷ []) n) → AfterMemory (copy_plan a b) before after status
 memory_before a b before after status ends files counts gave keeps known = record {
   ends = ends;
   later = λ o n. omega (arith, counts o n);
@@ -74,13 +80,19 @@ memory_before a b before after status ends files counts gave keeps known = recor
 }
 
 -- memory was wanted before anything was done
-pub unchanged_at_memory : (a b : List ℕ) (moment : Moment) (status : Status) → status.fault ≡ Memory → status.ends ≡ [] → AfterFault (copy_plan a b) copied moment moment status status.fault
+pub unchanged_at_memory : (a b : List ℕ) (moment : Moment) (status : Status) → status.fault ≡ Memory →
+    status.ends ≡ [] → AfterFault (copy_plan a b) copied moment moment status status.fault
 unchanged_at_memory a b moment status fault ends =
     at_fault a b moment moment status Memory fault
-    (memory_before a b moment moment status (inl ends) refl (λ o n. refl) (λ n. refl) (λ n has. has) (λ n has. Contains-append_left moment.known (a ∷ b ∷ []) n has))
+    (memory_before a b moment moment status (inl ends) refl (λ o n. refl) (λ n. refl) (λ n has. has)
+    (λ n has. Contains-append_left moment.known (a ∷ b ∷ []) n has))
 
 -- the source was not opened
-pub source_not_opened : {T : Type 0} (a b : List ℕ) (before after : Moment) (status : Status) (refusal : HostError) → status.fault ≡ opening_fault 0 refusal → status.ends ≡ [] → after.files ≡ before.files → CountsOfCall {T = T} Open a before.count after.count (Err refusal) → ((n : List ℕ) → after.gave n ≡ before.gave n) → KnownByCall {T = T} a before.known after.known (Err refusal) → AfterFault (copy_plan a b) copied before after status status.fault
+pub source_not_opened : {T : Type 0} (a b : List ℕ) (before after : Moment) (status : Status) (refusal : HostError) →
+    status.fault ≡ opening_fault 0 refusal → status.ends ≡ [] → after.files ≡ before.files →
+    CountsOfCall {T = T} Open a before.count after.count (Err refusal) → ((n : List ℕ) →
+    after.gave n ≡ before.gave n) → KnownByCall {T = T} a before.known after.known (Err refusal) →
+    AfterFault (copy_plan a b) copied before after status status.fault
 source_not_opened {T = T} a b before after status Failed fault ends files counts gave known =
     at_fault a b before after status (Device 0 OpenCall) fault (
       Reads a,
@@ -90,72 +102,113 @@ source_not_opened {T = T} a b before after status Failed fault ends files counts
         counts = counts_by_failure {T = T} Open a before.count after.count counts;
         gave = gave;
         known = known_by_open {T = T} a before.known after.known (Err Failed) known known.own;
-        files = files_same before.files after.files (FilesMade []) files (λ m. record { made = λ n e. cc; others = λ n other. refl });
+        files = files_same before.files after.files (FilesMade []) files
+            (λ m. record { made = λ n e. cc; others = λ n other. refl });
       },
     )
 source_not_opened {T = T} a b before after status HostMemory fault ends files counts gave known =
     at_fault a b before after status Memory fault
-    (memory_before a b before after status (inl ends) files (counts_kept_at_memory {T = T} Open a before.count after.count counts) gave known.keeps
-    (λ n has. known_one_more before.known a b n (known_only {T = T} a before.known after.known (Err HostMemory) known n has)))
+    (memory_before a b before after status (inl ends) files (counts_kept_at_memory {T = T} Open a before.count
+    after.count counts) gave known.keeps
+    (λ n has. known_one_more before.known a b n (known_only {T = T} a before.known after.known
+    (Err HostMemory) known n has)))
 
 -- memory was wanted for the entries of the readers
-pub entries_not_held : {T : Type 0} (a b : List ℕ) (before after : Moment) (middle : List (List ℕ)) (opened : T) (status : Status) → status.fault ≡ Memory → status.ends ≡ [] → after.files ≡ before.files → ((o : Op) (n : List ℕ) → after.count o n ≡ before.count o n) → ((n : List ℕ) → after.gave n ≡ before.gave n) → KnownByCall a before.known middle (Ok opened) → after.known ≡ middle → AfterFault (copy_plan a b) copied before after status status.fault
+pub entries_not_held : {T : Type 0} (a b : List ℕ) (before after : Moment) (middle : List (List ℕ)) (opened : T)
+    (status : Status) → status.fault ≡ Memory → status.ends ≡ [] → after.files ≡ before.files →
+    ((o : Op) (n : List ℕ) → after.count o n ≡ before.count o n) → ((n : List ℕ) → after.gave n ≡ before.gave n) →
+    KnownByCall a before.known middle (Ok opened) → after.known ≡ middle →
+    AfterFault (copy_plan a b) copied before after status status.fault
 entries_not_held a b before after middle opened status fault ends files counts gave known same =
     at_fault a b before after status Memory fault
-    (memory_before a b before after status (inl ends) files counts gave (λ n has. subst (λ ks. Contains ks n) (sym same) (known.keeps n has))
-    (λ n has. known_one_more before.known a b n (known_only a before.known middle (Ok opened) known n (subst (λ ks. Contains ks n) same has))))
+    (memory_before a b before after status (inl ends) files counts gave (λ n has. subst (λ ks. Contains ks n)
+    (sym same) (known.keeps n has))
+    (λ n has. known_one_more before.known a b n (known_only a before.known middle (Ok opened) known n (subst
+    (λ ks. Contains ks n) same has))))
 
 -- the sink was not opened
-pub sink_not_opened : {S T : Type 0} (a b : List ℕ) (before after : Moment) (c2 : Counts) (n1 n2 : List (List ℕ)) (opened : S) (status : Status) (refusal : HostError) (rest : Option (List ℕ)) → status.fault ≡ opening_fault 1 refusal → status.ends ≡ record { task = 0; given = 0; clean = false } ∷ [] → after.files ≡ before.files → IsContent before.files a rest → ((o : Op) (n : List ℕ) → c2 o n ≡ before.count o n) → CountsOfCall {T = T} Make b c2 after.count (Err refusal) → ((n : List ℕ) → after.gave n ≡ before.gave n) → KnownByCall a before.known n1 (Ok opened) → KnownByCall {T = T} b n1 n2 (Err refusal) → after.known ≡ n2 → AfterFault (copy_plan a b) copied before after status status.fault
-sink_not_opened {T = T} a b before after c2 n1 n2 opened status Failed rest fault ends files content counts_a counts_b gave known_a known_b same =
+pub sink_not_opened : {S T : Type 0} (a b : List ℕ) (before after : Moment) (c2 : Counts) (n1 n2 : List (List ℕ))
+    (opened : S) (status : Status) (refusal : HostError) (rest : Option (List ℕ)) →
+    status.fault ≡ opening_fault 1 refusal → status.ends ≡ record { task = 0; given = 0; clean = false } ∷ [] →
+    after.files ≡ before.files → IsContent before.files a rest → ((o : Op) (n : List ℕ) →
+    c2 o n ≡ before.count o n) → CountsOfCall {T = T} Make b c2 after.count (Err refusal) → ((n : List ℕ) →
+    after.gave n ≡ before.gave n) → KnownByCall a before.known n1 (Ok opened) →
+    KnownByCall {T = T} b n1 n2 (Err refusal) → after.known ≡ n2 →
+    AfterFault (copy_plan a b) copied before after status status.fault
+sink_not_opened {T = T} a b before after c2 n1 n2 opened status Failed rest fault ends files content counts_a
+    counts_b gave known_a known_b same =
     at_fault a b before after status (Device 1 OpenCall) fault (
       Writes b,
       record {
         planned = refl;
         ends = ends;
-        counts = λ o n. subst (λ c. CountsBy (is_at Make b o n) c (after.count o n)) (counts_a o n) (counts_by_failure {T = T} Make b c2 after.count counts_b o n);
+        counts = λ o n. subst (λ c. CountsBy (is_at Make b o n) c (after.count o n)) (counts_a o n)
+            (counts_by_failure {T = T} Make b c2 after.count counts_b o n);
         gave = gave;
-        known = subst (λ ks. (n : List ℕ) → (Contains ks n → Contains (before.known ++ a ∷ b ∷ []) n) × (Contains (before.known ++ a ∷ b ∷ []) n → Contains ks n)) (sym same)
-            (known_by_opens {T = T} a b before.known n1 n2 (Ok opened) (Err Failed) known_a known_a.own known_b known_b.own);
-        files = files_same before.files after.files (FilesMade []) files (λ m. record { made = λ n e. cc; others = λ n other. refl });
+        known = subst (λ ks. (n : List ℕ) → (Contains ks n →
+            Contains (before.known ++ a ∷ b ∷ []) n) × (Contains (before.known ++ a ∷ b ∷ []) n →
+            Contains ks n)) (sym same)
+            (known_by_opens {T = T} a b before.known n1 n2 (Ok opened)
+            (Err Failed) known_a known_a.own known_b known_b.own);
+        files = files_same before.files after.files (FilesMade []) files
+            (λ m. record { made = λ n e. cc; others = λ n other. refl });
       },
     )
-sink_not_opened {T = T} a b before after c2 n1 n2 opened status HostMemory rest fault ends files content counts_a counts_b gave known_a known_b same =
+sink_not_opened {T = T} a b before after c2 n1 n2 opened status HostMemory rest fault ends files content counts_a
+    counts_b gave known_a known_b same =
     at_fault a b before after status Memory fault
     (memory_before a b before after status (inr (at_rest_so_far before.files rest content)) files
     (λ o n. counts_kept_at_memory {T = T} Make b c2 after.count counts_b o n ∙ counts_a o n) gave
     (λ n has. subst (λ ks. Contains ks n) (sym same) (known_b.keeps n (known_a.keeps n has)))
-    (λ n has. known_only_both {T = T} a b before.known n1 n2 (Ok opened) (Err HostMemory) known_a known_b n (subst (λ ks. Contains ks n) same has))) where
-      at_rest_so_far : (files : Option Files) (rest : Option (List ℕ)) → IsContent files a rest → ReadSoFar (copy_plan a b) files status.ends
+    (λ n has. known_only_both {T = T} a b before.known n1 n2 (Ok opened) (Err HostMemory) known_a known_b n (subst
+    (λ ks. Contains ks n) same has))) where
+      at_rest_so_far : (files : Option Files) (rest : Option (List ℕ)) → IsContent files a rest →
+          ReadSoFar (copy_plan a b) files status.ends
       at_rest_so_far files rest content = record {
         course = Gave a [] false false ∷ Took b false false ∷ [];
         planned = refl;
         gives = (gives_none files rest content, (gives_nothing files b false false, tt));
         ends = ends;
       } where
-        gives_none : (files : Option Files) (rest : Option (List ℕ)) → IsContent files a rest → GivesFile files (Gave a [] false false)
+        gives_none : (files : Option Files) (rest : Option (List ℕ)) → IsContent files a rest →
+            GivesFile files (Gave a [] false false)
         gives_none None rest content = tt
-        gives_none (Some files) rest content = (content.0, content.1, record { rest = content.0; joined = refl; whole = λ e. cc })
+        gives_none (Some files) rest content = (
+          content.0,
+          content.1,
+          record {
+            rest = content.0;
+            joined = refl;
+            whole
+                = λ e. cc;
+          },
+        )
 
 -- told files keep what holds of them, said in other words
-told_more : (before after : Option Files) (P Q : Files → Files → Type 0) → WhereTold before after P → ((m n : Files) → P m n → Q m n) → WhereTold before after Q
+told_more : (before after : Option Files) (P Q : Files → Files → Type 0) → WhereTold before after P →
+    ((m n : Files) → P m n → Q m n) → WhereTold before after Q
 told_more None after P Q told more = tt
 told_more (Some m) after P Q told more = (told.0, told.1, more m told.0 told.2)
 
 -- what a keep answered, as a count tells it
-kept_counts : {T : Type 0} (kept : Result T HostError) (before now : ℕ) → (kept ≡ Err HostMemory → ⊥) → CountsRefusal kept before now → CountsBy (has_failed kept) before now
+kept_counts : {T : Type 0} (kept : Result T HostError) (before now : ℕ) → (kept ≡ Err HostMemory → ⊥) →
+    CountsRefusal kept before now → CountsBy (has_failed kept) before now
 kept_counts (Ok x) before now no_memory is = is
 kept_counts (Err Failed) before now no_memory rises = rises
 kept_counts (Err HostMemory) before now no_memory is = absurd (no_memory refl)
 
 -- the fault of a copy whose keep did not want memory
-fault_by_kept : {T : Type 0} (ran : Ran) (kept : Result T HostError) → (kept ≡ Err HostMemory → ⊥) → fault_by (Ok ran) kept ≡ fault_by_verdict ran.reader ran.unput (left_by (has_failed kept))
+fault_by_kept : {T : Type 0} (ran : Ran) (kept : Result T HostError) → (kept ≡ Err HostMemory → ⊥) →
+    fault_by (Ok ran) kept ≡ fault_by_verdict ran.reader ran.unput (left_by (has_failed kept))
 fault_by_kept ran (Ok x) no_memory = refl
 fault_by_kept ran (Err Failed) no_memory = refl
 fault_by_kept ran (Err HostMemory) no_memory = absurd (no_memory refl)
 
 -- what the calls of a copy answered once both files were opened
-pub record Opened {S K T A B : Type 0} (rest : S → Option (List ℕ)) (given faults : S → ℕ) (s0 s1 : S) (taken : K → Option (List ℕ)) (unputs : K → ℕ) (k0 k1 : K) (a b : List ℕ) (before after : Moment) (f2 f3 : Option Files) (c2 c3 : Counts) (g2 g3 : List ℕ → ℕ) (n1 n2 : List (List ℕ)) (opened_a : A) (opened_b : B) (kept : Result T HostError) : Type 0 where
+pub record Opened {S K T A B : Type 0} (rest : S → Option (List ℕ)) (given faults : S → ℕ) (s0 s1 : S) (taken : K →
+    Option (List ℕ)) (unputs : K → ℕ) (k0 k1 : K) (a b : List ℕ) (before after : Moment) (f2 f3 : Option Files)
+    (c2 c3 : Counts) (g2 g3 : List ℕ → ℕ) (n1 n2 : List (List ℕ)) (opened_a : A) (opened_b : B)
+    (kept : Result T HostError) : Type 0 where
   pub content : IsContent before.files a (rest s0)
   pub fresh : faults s0 ≡ 0
   pub unfailed : unputs k0 ≡ 0
@@ -173,9 +226,15 @@ pub record Opened {S K T A B : Type 0} (rest : S → Option (List ℕ)) (given f
   pub known_b : KnownByCall b n1 n2 (Ok opened_b)
   pub known : after.known ≡ n2
 
-module _ {S K T A B : Type 0} (rest : S → Option (List ℕ)) (given faults : S → ℕ) (s0 s1 : S) (taken : K → Option (List ℕ)) (unputs : K → ℕ) (k0 k1 : K) (a b : List ℕ) (before after : Moment) (f2 f3 : Option Files) (c2 c3 : Counts) (g2 g3 : List ℕ → ℕ) (n1 n2 : List (List ℕ)) (opened_a : A) (opened_b : B) (kept : Result T HostError) (status : Status) (h : Opened rest given faults s0 s1 taken unputs k0 k1 a b before after f2 f3 c2 c3 g2 g3 n1 n2 opened_a opened_b kept) where
+module _ {S K T A B : Type 0} (rest : S → Option (List ℕ)) (given faults : S → ℕ) (s0 s1 : S) (taken : K →
+    Option (List ℕ)) (unputs : K → ℕ) (k0 k1 : K) (a b : List ℕ) (before after : Moment) (f2 f3 : Option Files)
+    (c2 c3 : Counts) (g2 g3 : List ℕ → ℕ) (n1 n2 : List (List ℕ)) (opened_a : A) (opened_b : B)
+    (kept : Result T HostError) (status : Status) (h : Opened rest given faults s0 s1 taken unputs k0 k1 a b before
+    after f2 f3 c2 c3 g2 g3 n1 n2 opened_a opened_b kept) where
   -- the tasks ran, and the keep did not want memory
-  tasks_ran : (count : ℕ) (ran : Ran) → TasksRan rest given faults s0 s1 taken unputs k0 k1 count ran → (kept ≡ Err HostMemory → ⊥) → status.fault ≡ fault_by (Ok ran) kept → status.ends ≡ entry_of count (Ok ran) ∷ [] → AfterTasks (copy_plan a b) copied before after status
+  tasks_ran : (count : ℕ) (ran : Ran) → TasksRan rest given faults s0 s1 taken unputs k0 k1 count ran →
+      (kept ≡ Err HostMemory → ⊥) → status.fault ≡ fault_by (Ok ran) kept →
+      status.ends ≡ entry_of count (Ok ran) ∷ [] → AfterTasks (copy_plan a b) copied before after status
   tasks_ran count ran tasks no_memory fault ends =
       let bytes : List ℕ = tasks.read.bytes in
       let unpulled : Bool = tasks.read.unpulled in
@@ -183,7 +242,8 @@ module _ {S K T A B : Type 0} (rest : S → Option (List ℕ)) (given faults : S
       let is : tasks.reading ≡ reading = tasks.read.is_reading in
       let counted : count ≡ length bytes = tasks.read.pulled.counted in
       let verdict : ran.reader ≡ verdict_of reading.ending (length bytes) =
-      tasks.read.verdict_is ∙ ap (λ (r : Reading). verdict_of r.ending count) is ∙ ap (verdict_of reading.ending) counted in
+      tasks.read.verdict_is ∙ ap (λ (r : Reading). verdict_of r.ending count) is
+      ∙ ap (verdict_of reading.ending) counted in
       let cut : reading.ending ≡ ReadCut → count ≤ source_limit → unpulled ≡ true =
       subst (λ (r : Reading). r.ending ≡ ReadCut → count ≤ source_limit → unpulled ≡ true) is tasks.read.cut in
       let took : TakenBy ran.unput (opl_text (stream_of reading)) (taken k0) (taken k1) =
@@ -191,56 +251,99 @@ module _ {S K T A B : Type 0} (rest : S → Option (List ℕ)) (given faults : S
       record {
         course = Gave a bytes ran.clean unpulled ∷ Took b ran.unput (has_failed kept) ∷ [];
         planned = refl;
-        gives = (gives_file before.files a bytes ran.clean unpulled (rest s0) (rest s1) h.content tasks.read.pulled.told tasks.read.ended, (gives_nothing before.files b ran.unput (has_failed kept), tt));
-        pulls = ((tasks.read.whole, λ is_cut within. cut (cut_is reading.ending is_cut) (subst (λ n. n ≤ source_limit) (sym counted) within)), (tt, tt));
+        gives = (
+          gives_file before.files a bytes ran.clean unpulled (rest s0)
+              (rest s1) h.content tasks.read.pulled.told tasks.read.ended,
+          (
+            gives_nothing before.files b ran.unput
+                (has_failed kept),
+            tt,
+          ),
+        );
+        pulls = (
+          (
+            tasks.read.whole,
+            λ is_cut within. cut (cut_is reading.ending is_cut) (subst
+                (λ n. n ≤ source_limit) (sym counted) within),
+          ),
+          (tt, tt),
+        );
         ends = ends ∙ ap (λ n. record { task = 0; given = n; clean = ran.clean } ∷ []) counted;
         fault = fault ∙ fault_by_kept ran kept no_memory
             ∙ ap (λ v. fault_by_verdict v ran.unput (left_by (has_failed kept))) verdict
             ∙ sym (fault_of_copy reading a b bytes ran.clean unpulled ran.unput (has_failed kept));
-        counts = counts_after a b bytes ran.clean unpulled ran.unput (has_failed kept) before.count c2 c3 after.count (faults s1) (unputs k1) kept h.counts
+        counts = counts_after a b bytes ran.clean unpulled ran.unput
+            (has_failed kept) before.count c2 c3 after.count (faults s1) (unputs k1) kept h.counts
             (subst (λ n. CountsBy unpulled n (faults s1)) h.fresh tasks.read.pulls) h.pulls
             (subst (λ n. CountsBy ran.unput n (unputs k1)) h.unfailed tasks.puts) h.puts
             (kept_counts kept (c3 Keep b) (after.count Keep b) no_memory h.puts.kept);
-        gave = gave_after a b bytes ran.clean unpulled ran.unput (has_failed kept) before.gave g2 g3 after.gave (given s1) h.gave tasks.read.pulled.gave h.gives h.gave_kept;
-        known = subst (λ ks. (n : List ℕ) → (Contains ks n → Contains (before.known ++ a ∷ b ∷ []) n) × (Contains (before.known ++ a ∷ b ∷ []) n → Contains ks n)) (sym h.known)
-            (known_by_opens a b before.known n1 n2 (Ok opened_a) (Ok opened_b) h.known_a h.known_a.own h.known_b h.known_b.own);
-        files = told_more before.files after.files (KeptFiles (opl_text (stream_of reading)) b ran.unput (has_failed kept)) (FilesAfter (copy_meaning reading) (Gave a bytes ran.clean unpulled ∷ Took b ran.unput (has_failed kept) ∷ []))
-            (files_after_keep before.files f2 f3 after.files b (opl_text (stream_of reading)) ran.unput (taken k0) (taken k1) kept h.made h.closed h.empty took h.keeps no_memory)
+        gave = gave_after a b bytes ran.clean unpulled ran.unput (has_failed kept) before.gave g2 g3 after.gave
+            (given s1) h.gave tasks.read.pulled.gave h.gives h.gave_kept;
+        known = subst (λ ks. (n : List ℕ) → (Contains ks n →
+            Contains (before.known ++ a ∷ b ∷ []) n) × (Contains (before.known ++ a ∷ b ∷ []) n →
+            Contains ks n)) (sym h.known)
+            (known_by_opens a b before.known n1 n2 (Ok opened_a)
+            (Ok opened_b) h.known_a h.known_a.own h.known_b h.known_b.own);
+        files = told_more before.files after.files (KeptFiles (opl_text (stream_of reading)) b ran.unput
+            (has_failed kept)) (FilesAfter (copy_meaning reading)
+            (Gave a bytes ran.clean unpulled ∷ Took b ran.unput (has_failed kept) ∷ []))
+            (files_after_keep before.files f2 f3 after.files b (opl_text (stream_of reading)) ran.unput (taken k0)
+            (taken k1) kept h.made h.closed h.empty took h.keeps no_memory)
             (λ m n files. record { written = (tt, (files.own, tt)); others = files.others });
       }
 
   -- memory was wanted after both files were opened
-  memory_after : (count : ℕ) (bytes : List ℕ) (clean : Bool) → rest s0 ≡ prepend_known bytes (rest s1) → (clean ≡ true → IsAtEnd (rest s1)) → count ≡ length bytes → status.ends ≡ record { task = 0; given = count; clean = clean } ∷ [] → AfterMemory (copy_plan a b) before after status
+  memory_after : (count : ℕ) (bytes : List ℕ) (clean : Bool) → rest s0 ≡ prepend_known bytes (rest s1) →
+      (clean ≡ true → IsAtEnd (rest s1)) → count ≡ length bytes →
+      status.ends ≡ record { task = 0; given = count; clean = clean } ∷ [] →
+      AfterMemory (copy_plan a b) before after status
   memory_after count bytes clean told ended counted ends = record {
     ends = inr (record {
       course = Gave a bytes clean false ∷ Took b false false ∷ [];
       planned = refl;
-      gives = (gives_file before.files a bytes clean false (rest s0) (rest s1) h.content told ended, (gives_nothing before.files b false false, tt));
+      gives = (
+        gives_file before.files a bytes clean false (rest s0) (rest s1) h.content told ended,
+        (gives_nothing before.files b false false, tt),
+      );
       ends = ends ∙ ap (λ n. record { task = 0; given = n; clean = clean } ∷ []) counted;
     });
     later = counts_later a b before.count c2 c3 after.count (faults s1) (unputs k1) kept h.counts h.pulls h.puts;
-    counts = λ o n other. let apart : (bytes_eq n a ≡ false) × (bytes_eq n b ≡ false) = neither (bytes_eq n a) (bytes_eq n b) other in
-        counts_elsewhere a b before.count c2 c3 after.count (faults s1) (unputs k1) kept h.counts h.pulls h.puts o n apart.0 apart.1;
-    gave = λ n other. h.gave_kept n ∙ h.gives n ∙ ap (λ at. cond at (raised (g2 n) (given s1)) (g2 n)) (one_name a n other) ∙ h.gave n;
+    counts = λ o n other. let apart : (bytes_eq n a ≡ false) × (bytes_eq n b ≡ false) = neither (bytes_eq n a)
+        (bytes_eq n b) other in
+        counts_elsewhere a b before.count c2 c3 after.count (faults s1)
+        (unputs k1) kept h.counts h.pulls h.puts o n apart.0 apart.1;
+    gave = λ n other. h.gave_kept n ∙ h.gives n ∙ ap (λ at. cond at (raised (g2 n) (given s1)) (g2 n))
+        (one_name a n other) ∙ h.gave n;
     keeps = λ n has. subst (λ ks. Contains ks n) (sym h.known) (h.known_b.keeps n (h.known_a.keeps n has));
-    known = λ n has. known_only_both a b before.known n1 n2 (Ok opened_a) (Ok opened_b) h.known_a h.known_b n (subst (λ ks. Contains ks n) h.known has);
+    known = λ n has. known_only_both a b before.known n1 n2 (Ok opened_a) (Ok opened_b) h.known_a h.known_b n (subst
+        (λ ks. Contains ks n) h.known has);
     files = others_after_keep before.files f2 f3 after.files b (taken k1) kept h.made h.closed h.keeps;
   }
 
-  outcome_by : (count : ℕ) (ran : Result Ran NoMemory) (answer : Result T HostError) → kept ≡ answer → IfOk ran (TasksRan rest given faults s0 s1 taken unputs k0 k1 count) → OnErr ran (GaveUnheld rest given s0 s1 count) → status.fault ≡ fault_by ran answer → status.ends ≡ entry_of count ran ∷ [] → AfterFault (copy_plan a b) copied before after status status.fault
+  outcome_by : (count : ℕ) (ran : Result Ran NoMemory) (answer : Result T HostError) → kept ≡ answer →
+      IfOk ran (TasksRan rest given faults s0 s1 taken unputs k0 k1 count) →
+      OnErr ran (GaveUnheld rest given s0 s1 count) → status.fault ≡ fault_by ran answer →
+      status.ends ≡ entry_of count ran ∷ [] → AfterFault (copy_plan a b) copied before after status status.fault
   outcome_by count (Err none) answer same tasks (bytes, pulled) fault ends =
-      at_fault a b before after status Memory fault (memory_after count bytes false pulled.told (λ e. absurd (let no : false ≡ true = e in cc)) pulled.counted ends)
+      at_fault a b before after status Memory fault (memory_after count bytes false pulled.told (λ e. absurd
+      (let no : false ≡ true = e in cc)) pulled.counted ends)
   outcome_by count (Ok ran) (Err HostMemory) same tasks unheld fault ends =
-      at_fault a b before after status Memory fault (memory_after count tasks.read.bytes ran.clean tasks.read.pulled.told tasks.read.ended tasks.read.pulled.counted ends)
+      at_fault a b before after status Memory fault (memory_after count tasks.read.bytes ran.clean
+      tasks.read.pulled.told tasks.read.ended tasks.read.pulled.counted ends)
   outcome_by count (Ok ran) (Ok x) same tasks unheld fault ends =
       at_fault a b before after status (fault_by_verdict ran.reader ran.unput (left_by false)) fault
       (after_tasks (copy_plan a b) copied before after status ran.reader ran.unput false
-      (tasks_ran count ran tasks (λ e. let no : Ok x ≡ Err HostMemory = sym same ∙ e in cc) (fault ∙ ap (fault_by (Ok ran)) (sym same)) ends))
+      (tasks_ran count ran tasks (λ e. let no : Ok x ≡ Err HostMemory = sym same ∙ e in cc) (fault
+      ∙ ap (fault_by (Ok ran)) (sym same)) ends))
   outcome_by count (Ok ran) (Err Failed) same tasks unheld fault ends =
       at_fault a b before after status (fault_by_verdict ran.reader ran.unput (left_by true)) fault
       (after_tasks (copy_plan a b) copied before after status ran.reader ran.unput true
-      (tasks_ran count ran tasks (λ e. let no : Err Failed ≡ Err HostMemory = sym same ∙ e in cc) (fault ∙ ap (fault_by (Ok ran)) (sym same)) ends))
+      (tasks_ran count ran tasks (λ e. let no : Err Failed ≡ Err HostMemory = sym same ∙ e in cc) (fault
+      ∙ ap (fault_by (Ok ran)) (sym same)) ends))
 
   -- the outcome of a copy whose files were opened
-  pub opened_outcome : (count : ℕ) (ran : Result Ran NoMemory) → IfOk ran (TasksRan rest given faults s0 s1 taken unputs k0 k1 count) → OnErr ran (GaveUnheld rest given s0 s1 count) → status.fault ≡ fault_by ran kept → status.ends ≡ entry_of count ran ∷ [] → AfterFault (copy_plan a b) copied before after status status.fault
+  pub opened_outcome : (count : ℕ) (ran : Result Ran NoMemory) →
+      IfOk ran (TasksRan rest given faults s0 s1 taken unputs k0 k1 count) →
+      OnErr ran (GaveUnheld rest given s0 s1 count) → status.fault ≡ fault_by ran kept →
+      status.ends ≡ entry_of count ran ∷ [] → AfterFault (copy_plan a b) copied before after status status.fault
   opened_outcome count ran tasks unheld fault ends = outcome_by count ran kept refl tasks unheld fault ends

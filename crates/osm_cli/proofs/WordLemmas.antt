@@ -28,16 +28,20 @@ pub record IsCopy (from to : List ℕ) : Type 0 where
 
 pub copy_parts : (read from write to : List ℕ) → are_copy read from write to ≡ true → IsCopy from to
 copy_parts read from write to copy =
-    let a = and_parts (bytes_eq read (codes "--read-opl") && names_file from && bytes_eq write (codes "--write-opl") && names_file to) (not (bytes_eq from to)) copy in
-    let b = and_parts (bytes_eq read (codes "--read-opl") && names_file from && bytes_eq write (codes "--write-opl")) (names_file to) a.0 in
-    let c = and_parts (bytes_eq read (codes "--read-opl") && names_file from) (bytes_eq write (codes "--write-opl")) b.0 in
+    let a = and_parts (bytes_eq read (codes "--read-opl") && names_file from && bytes_eq write
+    (codes "--write-opl") && names_file to) (not (bytes_eq from to)) copy in
+    let b = and_parts (bytes_eq read (codes "--read-opl") && names_file from && bytes_eq write
+    (codes "--write-opl")) (names_file to) a.0 in
+    let c = and_parts (bytes_eq read (codes "--read-opl") && names_file from) (bytes_eq write
+    (codes "--write-opl")) b.0 in
     let d = and_parts (bytes_eq read (codes "--read-opl")) (names_file from) c.0 in
     record { from_names = d.1; to_names = b.1; apart = not_true (bytes_eq from to) a.1 }
 
 -- the names of a copy differ
 pub names_differ : (from to : List ℕ) → IsCopy from to → name_in from ≡ name_in to → ⊥
 names_differ from to copy same =
-    let equal : from ≡ to = file_word from copy.from_names ∙ ap (λ name. codes "file=" ++ name) same ∙ sym (file_word to copy.to_names) in
+    let equal : from ≡ to = file_word from copy.from_names ∙ ap (λ name. codes "file=" ++ name) same
+    ∙ sym (file_word to copy.to_names) in
     let is : bytes_eq from to ≡ true = (bytes_eq-Decides from to).1 equal in
     let no : true ≡ false = sym is ∙ copy.apart in
     cc
@@ -56,10 +60,13 @@ pub name-IsUtf8 : (word : List ℕ) → names_file word ≡ true → IsUtf8 word
 name-IsUtf8 word names utf8 =
     let front : codes "file=" ≡ take 5 word = file_front word names in
     let long : 5 ≤ length word = omega (arith, ap length front, length-take 5 word) in
-    IsUtf8-drop word 5 utf8 (IsCharBoundary-from_take word 5 utf8 long (subst IsUtf8 front (IsUtf8-from_ascii (codes "file=") file_ascii)))
+    IsUtf8-drop word 5 utf8 (IsCharBoundary-from_take word 5 utf8 long (subst IsUtf8 front (IsUtf8-from_ascii
+    (codes "file=") file_ascii)))
 
 -- the same, as the code cuts it off
-pub rest-IsUtf8 : (word bytes : List ℕ) → bytes ≡ word → names_file word ≡ true → IsUtf8 word → IsUtf8 (take (length bytes - 5) (drop 5 bytes))
+pub rest-IsUtf8 : (word bytes : List ℕ) → bytes ≡ word → names_file word ≡ true → IsUtf8 word →
+    IsUtf8 (take (length bytes - 5) (drop 5 bytes))
 rest-IsUtf8 word bytes same names utf8 =
-    let cut : take (length bytes - 5) (drop 5 bytes) ≡ drop 5 word = take_all (length bytes - 5) (drop 5 bytes) (omega (arith, length-drop 5 bytes)) ∙ ap (drop 5) same in
+    let cut : take (length bytes - 5) (drop 5 bytes) ≡ drop 5 word = take_all (length bytes - 5) (drop 5 bytes)
+    (omega (arith, length-drop 5 bytes)) ∙ ap (drop 5) same in
     subst IsUtf8 (sym cut) (name-IsUtf8 word names utf8)

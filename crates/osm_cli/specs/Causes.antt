@@ -53,7 +53,8 @@ KeepCause plan before after status = (task : ℕ) → status.fault ≡ Device ta
     OfPlan plan (λ p. RoseAt p Writes KeepOp before after task)
 
 -- the meaning of a task is this wrong input, and no task before it is faulty
-pub record IsWrong (plan : Plan) (meaning : List Part → Meaning) (before : Moment) (status : Status) (task : ℕ) (cause : Cause) (spot : Spot) : Type 0 where
+pub record IsWrong (plan : Plan) (meaning : List Part → Meaning) (before : Moment) (status : Status) (task : ℕ)
+    (cause : Cause) (spot : Spot) : Type 0 where
   pub course : List Part
   pub planned : map access_of course ≡ plan
   pub gives : AllByRecursion (GivesFile before.files) course
@@ -63,7 +64,8 @@ pub record IsWrong (plan : Plan) (meaning : List Part → Meaning) (before : Mom
 
 -- a wrong input is the meaning of the first faulty task over the bytes that the sources gave
 abbrev pub InputCause : Option Plan → (List Part → Meaning) → Moment → Status → Type 0
-InputCause plan meaning before status = (task : ℕ) (cause : Cause) (spot : Spot) → status.fault ≡ Input task cause spot →
+InputCause plan meaning before status = (task : ℕ) (cause : Cause) (spot : Spot) →
+    status.fault ≡ Input task cause spot →
     OfPlan plan (λ p. IsWrong p meaning before status task cause spot)
 
 -- an entry of this task says that its source gave more than the limit
@@ -90,7 +92,8 @@ CleanCause before after status = status.fault ≡ Clean → IsCleanRun before af
 pub data UncleanBy (plan : Plan) (before after : Moment) (status : Status) (entry : SourceEnd) : Type 0 where
   AtMemory : status.fault ≡ Memory → UncleanBy plan before after status entry
   AtOpening : (task : ℕ) → status.fault ≡ Device task Open → UncleanBy plan before after status entry
-  AtWrong : (cause : Cause) (spot : Spot) → status.fault ≡ Input entry.task cause spot → UncleanBy plan before after status entry
+  AtWrong : (cause : Cause) (spot : Spot) → status.fault ≡ Input entry.task cause spot →
+      UncleanBy plan before after status entry
   AtLimit : source_limit < entry.given → UncleanBy plan before after status entry
   AtPull : RoseAt plan Reads Pull before after entry.task → UncleanBy plan before after status entry
 

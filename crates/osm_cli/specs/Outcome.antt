@@ -73,7 +73,8 @@ pub record FilesAfter (m : Meaning) (course : List Part) (before after : Files) 
   pub others : OthersStay (sinks (map access_of course)) before after
 
 -- the tasks ran
-pub record AfterTasks (plan : Plan) (meaning : List Part → Meaning) (before after : Moment) (status : Status) : Type 0 where
+pub record AfterTasks (plan : Plan) (meaning : List Part → Meaning) (before after : Moment)
+    (status : Status) : Type 0 where
   pub course : List Part
   pub planned : map access_of course ≡ plan
   pub gives : AllByRecursion (GivesFile before.files) course
@@ -124,10 +125,12 @@ pub record FilesMade (names : List (List ℕ)) (before after : Files) : Type 0 w
   pub others : OthersStay names before after
 
 -- the file of this task was not opened
-pub record AfterOpening (plan : Plan) (before after : Moment) (entries : List SourceEnd) (task : ℕ) (access : Access) : Type 0 where
+pub record AfterOpening (plan : Plan) (before after : Moment) (entries : List SourceEnd) (task : ℕ)
+    (access : Access) : Type 0 where
   pub planned : slice_get plan task ≡ Some access
   pub ends : entries ≡ ends_at plan access
-  pub counts : (op : Op) (n : List ℕ) → CountsBy (is_at (opening access) (file_of access) op n) (before.count op n) (after.count op n)
+  pub counts : (op : Op) (n : List ℕ) → CountsBy (is_at (opening access) (file_of access) op n) (before.count op n)
+      (after.count op n)
   pub gave : (n : List ℕ) → after.gave n ≡ before.gave n
   pub known : SameNames after.known (before.known ++ opened plan task access)
   pub files : WhereTold before.files after.files (FilesMade (made_before plan task access))

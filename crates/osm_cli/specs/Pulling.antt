@@ -8,7 +8,8 @@ use Rattle.osm_cli.specs.declared.gathering.PullEnd.{PullEnd}
 use Rattle.osm_cli.specs.declared.gathering.PullEnd.TheVariants.{Ended, Failed, TooLong}
 
 -- these bytes came off the front of a new source, and were counted
-pub record Pulled {S : Type 0} (rest : S → Option (List ℕ)) (given : S → ℕ) (before now : S) (count : ℕ) (bytes : List ℕ) : Type 0 where
+pub record Pulled {S : Type 0} (rest : S → Option (List ℕ)) (given : S →
+    ℕ) (before now : S) (count : ℕ) (bytes : List ℕ) : Type 0 where
   pub told : rest before ≡ prepend_known bytes (rest now)
   pub gave : given now ≡ length bytes
   pub counted : count ≡ length bytes

@@ -32,7 +32,8 @@ verdict_of Cut count = if nat_lt source_limit count then TooLong else Read
 verdict_of (BadLine cause line) count = Input cause (Line line)
 
 -- a source gave some bytes, and its reader's items and verdict are those of these bytes
-pub record SourceIsRead {S : Type 0} (rest : S → Option (List ℕ)) (given faults : S → ℕ) (before now : S) (count : ℕ) (clean : Bool) (verdict : Verdict) (reading : Reading) : Type 0 where
+pub record SourceIsRead {S : Type 0} (rest : S → Option (List ℕ)) (given faults : S →
+    ℕ) (before now : S) (count : ℕ) (clean : Bool) (verdict : Verdict) (reading : Reading) : Type 0 where
   pub bytes : List ℕ
   pub unpulled : Bool
   pub pulled : Pulled rest given before now count bytes

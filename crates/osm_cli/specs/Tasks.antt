@@ -15,7 +15,8 @@ TakenBy false bytes before now = now ≡ append_known before bytes
 TakenBy true bytes before now = TookFront bytes before now
 
 -- the reader of a copy was read, and the lines of its items were put
-pub record TasksRan {S K : Type 0} (rest : S → Option (List ℕ)) (given faults : S → ℕ) (before now : S) (taken : K → Option (List ℕ)) (unputs : K → ℕ) (empty full : K) (count : ℕ) (r : Ran) : Type 0 where
+pub record TasksRan {S K : Type 0} (rest : S → Option (List ℕ)) (given faults : S → ℕ) (before now : S) (taken : K →
+    Option (List ℕ)) (unputs : K → ℕ) (empty full : K) (count : ℕ) (r : Ran) : Type 0 where
   pub reading : Reading
   pub read : SourceIsRead rest given faults before now count r.clean r.reader reading
   pub puts : CountsBy r.unput (unputs empty) (unputs full)

@@ -11,6 +11,8 @@ mod reading;
 mod real_files;
 mod running;
 mod status;
+#[cfg(test)]
+mod tests;
 mod words;
 
 use arguments::read_words;

@@ -8,7 +8,10 @@ use Rattle.osm_cli.proofs.putting.put_items.Goals as goal
 pub returns-in_err-put_item-clause-err : goal.returns-in_err-put_item-clause-err
 returns-in_err-put_item-clause-err g c =
     OnErr-always c.from_residual.result
-    (took_front_of_next line_text c.args.items.now c.loop-item.item-index c.item-item.result (g.K.Sink.taken c.args.sink.now) (g.K.Sink.taken c.loop-item.sink) (g.K.Sink.taken c.put_item.new.sink) c.loop-item-test.true c.item-item.is c.loop-item.invariant.1 c.in_err-put_item.ensures.err)
+    (took_front_of_next line_text c.args.items.now c.loop-item.item-index c.item-item.result
+    (g.K.Sink.taken c.args.sink.now) (g.K.Sink.taken c.loop-item.sink)
+    (g.K.Sink.taken c.put_item.new.sink) c.loop-item-test.true c.item-item.is c.loop-item.invariant.1
+    c.in_err-put_item.ensures.err)
 
 pub loop-item-preserved : goal.loop-item-preserved
 loop-item-preserved g c = (
@@ -16,6 +19,8 @@ loop-item-preserved g c = (
   c.in_ok-put_item.ensures.ok
       ∙ ap (λ o. append_known o (line_text c.item-item.result)) c.loop-item.invariant.1
       ∙ append-append _ _ _
-      ∙ ap (append_known (g.K.Sink.taken c.args.sink.now)) (sym (flat_map_next line_text c.args.items.now c.loop-item.item-index c.item-item.result c.loop-item-test.true c.item-item.is)),
+      ∙ ap (append_known (g.K.Sink.taken c.args.sink.now)) (sym
+      (flat_map_next line_text c.args.items.now c.loop-item.item-index c.item-item.result c.loop-item-test.true
+      c.item-item.is)),
   c.in_ok-put_item.ensures.faults ∙ c.loop-item.invariant.2,
 )

@@ -14,4 +14,5 @@ pub returns-in_default-file_name-clause-outcome : goal.returns-in_default-file_n
 returns-in_default-file_name-clause-outcome g c =
     unchanged_at_memory (name_in c.args.from.now) (name_in c.args.to.now)
     (moment g.H.Host.files g.H.Host.said g.H.Host.mute g.H.Host.count g.H.Host.gave g.H.Host.known c.args.host.now)
-    c.status-in_default-file_name.result c.status-in_default-file_name.ensures.fault (c.status-in_default-file_name.ensures.ends ∙ c.new-in_default-file_name.ensures)
+    c.status-in_default-file_name.result c.status-in_default-file_name.ensures.fault
+    (c.status-in_default-file_name.ensures.ends ∙ c.new-in_default-file_name.ensures)
