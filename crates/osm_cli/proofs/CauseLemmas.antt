@@ -79,8 +79,9 @@ after_copy : (a b : List ℕ) (before after : Moment) (status : Status) →
     AfterTasks (copy_plan a b) copied before after status → AfterCopy a b before after status
 after_copy a b before after status tasks =
     let c : IsCopyCourse a b tasks.course = copy_course a b tasks.course tasks.planned in
-    let pulls : (c.clean ≡ true → c.unpulled ≡ false) × (reader_finish (reading_of c.bytes c.clean).ending ≡ Cut →
-    length c.bytes ≤ source_limit → c.unpulled ≡ true) =
+    let pulls : (c.clean ≡ true → c.unpulled ≡ false) × (c.clean ≡ true → length c.bytes ≤ source_limit)
+    × (reader_finish (reading_of c.bytes c.clean).ending ≡ Cut → length c.bytes ≤ source_limit →
+    c.unpulled ≡ true) =
     (subst (λ course. AllByRecursion (PullsAs (copied course)) (numbered course)) c.is tasks.pulls).0 in
     record {
       bytes = c.bytes;
@@ -90,7 +91,7 @@ after_copy a b before after status tasks =
       unkept = c.unkept;
       gives = subst (AllByRecursion (GivesFile before.files)) c.is tasks.gives;
       whole = pulls.0;
-      cut = λ is. pulls.1 (ap reader_finish is);
+      cut = λ is. pulls.2 (ap reader_finish is);
       ends = tasks.ends ∙ ap ends_of c.is;
       fault = tasks.fault ∙ ap (λ course. fault_of (copied course) course) c.is
           ∙ fault_of_copy (reading_of c.bytes c.clean) a b c.bytes c.clean c.unpulled c.unput c.unkept;

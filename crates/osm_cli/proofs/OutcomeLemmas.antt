@@ -263,6 +263,7 @@ module _ {S K T A B : Type 0} (rest : S → Option (List ℕ)) (given faults : S
         pulls = (
           (
             tasks.read.whole,
+            λ is_clean. subst (λ n. n ≤ source_limit) counted (tasks.read.within is_clean),
             λ is_cut within. cut (cut_is reading.ending is_cut) (subst
                 (λ n. n ≤ source_limit) (sym counted) within),
           ),

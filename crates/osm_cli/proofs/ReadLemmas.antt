@@ -70,6 +70,7 @@ is_read rest given faults old now count bytes held reading verdict Ended pulled 
       ended = λ _. ends.1;
       pulls = ends.2;
       whole = λ _. refl;
+      within = λ _. ends.0;
       cut = λ cut within. absurd (whole cut);
       is_reading = is_reading ∙ ap (λ b. opl_reading Entities b true) is_held;
       verdict_is = is_verdict ∙ verdict_ended reading.ending count whole;
@@ -82,6 +83,7 @@ is_read rest given faults old now count bytes held reading verdict Failed pulled
       ended = λ clean. cc;
       pulls = ends.1;
       whole = λ clean. cc;
+      within = λ clean. cc;
       cut = λ cut within. refl;
       is_reading = is_reading ∙ ap (λ b. opl_reading Entities b false) is_held;
       verdict_is = is_verdict ∙ verdict_failed reading.ending count (le-ltb source_limit count ends.0);
@@ -94,6 +96,7 @@ is_read rest given faults old now count bytes held reading verdict TooLong pulle
       ended = λ clean. cc;
       pulls = ends.1;
       whole = λ clean. refl;
+      within = λ clean. cc;
       cut = λ cut within. absurd (omega (arith, ends.0));
       is_reading = is_reading ∙ ap (λ b. opl_reading Entities b false) is_held;
       verdict_is = is_verdict ∙ verdict_too_long reading.ending count (lt-ltb source_limit count ends.0);

@@ -41,10 +41,12 @@ GivesFile (Some files) (Gave name bytes clean unpulled) =
     (file : List ℕ) × (finite.get files name ≡ Some file) × IsFront bytes clean file
 GivesFile told part = ⊤
 
--- a source whose end came had no failed pull, and one that was cut off within the limit had one
+-- a source whose end came had no failed pull and gave no more than the limit; one that was cut off within the limit had a failed pull
 abbrev pub PullsAs : Meaning → ℕ × Part → Type 0
 PullsAs m (task, Gave name bytes clean unpulled) =
-    (clean ≡ true → unpulled ≡ false) × (m.finish task ≡ Cut → length bytes ≤ source_limit → unpulled ≡ true)
+    (clean ≡ true → unpulled ≡ false)
+    × (clean ≡ true → length bytes ≤ source_limit)
+    × (m.finish task ≡ Cut → length bytes ≤ source_limit → unpulled ≡ true)
 PullsAs m (task, Took name unput unkept) = ⊤
 
 -- a writer's file: nothing is said of it after a failed keep; after a failed put it is a front of the writer's bytes; else all of them

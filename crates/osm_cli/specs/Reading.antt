@@ -40,6 +40,7 @@ pub record SourceIsRead {S : Type 0} (rest : S → Option (List ℕ)) (given fau
   pub ended : clean ≡ true → IsAtEnd (rest now)
   pub pulls : CountsBy unpulled (faults before) (faults now)
   pub whole : clean ≡ true → unpulled ≡ false
+  pub within : clean ≡ true → count ≤ source_limit
   pub cut : reading.ending ≡ Cut → count ≤ source_limit → unpulled ≡ true
   pub is_reading : reading ≡ reading_of bytes clean
   pub verdict_is : verdict ≡ verdict_of reading.ending count

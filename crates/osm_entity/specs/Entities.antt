@@ -7,7 +7,7 @@ use Rattle.osm_entity.specs.declared.parts.Place.{Place}
 use Rattle.osm_entity.specs.declared.parts.Body.{Body}
 use Rattle.osm_entity.specs.declared.parts.Body.TheVariants.{Node, Way, Relation}
 
--- an entity
+-- an entity: its id, its metadata, its tags, and what is proper to its kind
 pub record EntityValue : Type 0 where
   pub id : ℤ
   pub version : ℕ
@@ -26,7 +26,7 @@ degree = 10 ^ 9
 abbrev pub place_fits : Place → Bool
 place_fits p = nat_le (nat_abs p.lon) (180 * degree) && nat_le (nat_abs p.lat) (90 * degree)
 
--- a node is within range if it has a place; ways and relations have none
+-- a node's place, where it has one, is within these bounds; ways and relations have none
 abbrev pub body_fits : Body → Bool
 body_fits (Node (Some p)) = place_fits p
 body_fits (Node None) = true

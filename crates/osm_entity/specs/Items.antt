@@ -22,7 +22,7 @@ has_place (Node (Some p)) = true
 has_place (Way refs) = true
 has_place (Relation members) = true
 
--- only a delete may lack a place; version 1 is a create, and a modify has another version
+-- only a delete may lack a place; a create has version 1, and a modify another version
 pub record IsItem (i : ItemValue) : Type 0 where
   pub placed : i.act ≢ Delete → IsTrue (has_place i.entity.body)
   pub created : i.act ≡ Create → i.entity.version ≡ 1
