@@ -29,7 +29,7 @@ type Failing = (&'static [u8], Op, u64);
 type Row = (
     &'static str,
     Option<&'static [u8]>,
-    &'static [u32],
+    (u32, u32),
     Failing,
     &'static [u8],
     Fault,
@@ -37,7 +37,7 @@ type Row = (
 );
 
 /// Pulls of the whole file at once, and of one byte each.
-const BOTH: &[u32] = &[4096, 1];
+const BOTH: (u32, u32) = (4096, 1);
 
 /// No call fails.
 const NONE: Failing = (b"", Op::Open, 0);
@@ -201,7 +201,7 @@ fn a_copy_is_as_its_row_says(rt: HostRuntime) -> Result<(), Fail> {
         (
             "the second pull fails",
             Some(b"n1 x1.5 y2"),
-            &[4096],
+            (4096, 4096),
             (b"a", Op::Pull, 2),
             b"",
             read,
@@ -210,7 +210,7 @@ fn a_copy_is_as_its_row_says(rt: HostRuntime) -> Result<(), Fail> {
         (
             "the eleventh pull fails",
             Some(b"n1 x1.5 y2"),
-            &[1],
+            (1, 1),
             (b"a", Op::Pull, 11),
             b"",
             read,
@@ -246,7 +246,7 @@ fn a_copy_is_as_its_row_says(rt: HostRuntime) -> Result<(), Fail> {
         (
             "a bad line before a failed pull",
             Some(b"x\nn1 x0"),
-            &[4096],
+            (4096, 4096),
             (b"a", Op::Pull, 2),
             b"",
             not_built(1),
@@ -290,10 +290,8 @@ fn a_copy_is_as_its_row_says(rt: HostRuntime) -> Result<(), Fail> {
         ),
     ];
     for row in table {
-        for piece in row.2 {
-            if *piece > 0 {
-                check(&rt, row, *piece)?;
-            }
+        for piece in [row.2.0, row.2.1] {
+            check(&rt, row, piece.max(1))?;
         }
     }
     Ok(())

@@ -1,8 +1,7 @@
 -- Entities as contracts see them, what each keeps, and what it weighs.
 -- Here an entity is a record of plain numbers and lists; the code keeps texts and lists in blocks of their own.
-use Rattle.std.specs.Prelude.{ℕ, ℤ, nat_abs, ◌+◌, ◌*◌, ◌^◌, ◌<◌, ◌≤◌, ◌≢◌, List, [], length, All, Bool, true, ◌&&◌, nat_le, IsTrue, Option, Some, None, sum_by}
+use Rattle.std.specs.Prelude.{ℕ, ℤ, nat_abs, ◌+◌, ◌*◌, ◌^◌, ◌<◌, ◌≤◌, ◌≢◌, List, [], length, All, Bool, true, ◌&&◌, nat_le, IsTrue, Some, None, sum_by}
 use Rattle.osm_entity.specs.declared.parts.Tag.{Tag}
-use Rattle.osm_entity.specs.declared.parts.Member.{Member}
 use Rattle.osm_entity.specs.declared.parts.Place.{Place}
 use Rattle.osm_entity.specs.declared.parts.Body.{Body}
 use Rattle.osm_entity.specs.declared.parts.Body.TheVariants.{Node, Way, Relation}

@@ -1,9 +1,9 @@
 -- Items of a stream as contracts see them, what each keeps, and its key.
 -- Here an item is an act and an entity side by side; the code reads the act from two fields of its line.
-use Rattle.std.specs.Prelude.{◌≡◌, ◌≢◌, Bool, true, false, IsTrue, Option, Some, None}
+use Rattle.std.specs.Prelude.{◌≡◌, ◌≢◌, Bool, true, false, IsTrue, Some, None}
 use Rattle.osm_entity.specs.Entities.{EntityValue}
 use Rattle.osm_entity.specs.declared.item.Act.{Act}
-use Rattle.osm_entity.specs.declared.item.Act.TheVariants.{Keep, Create, Modify, Delete}
+use Rattle.osm_entity.specs.declared.item.Act.TheVariants.{Create, Modify, Delete}
 use Rattle.osm_entity.specs.declared.kind.Kind.{Kind}
 use Rattle.osm_entity.specs.declared.kind.Kind.TheVariants.{Node as OfNode, Way as OfWay, Relation as OfRelation}
 use Rattle.osm_entity.specs.declared.kind.Key.{Key}
