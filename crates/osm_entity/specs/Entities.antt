@@ -1,6 +1,7 @@
 -- Entities as contracts see them, what each keeps, and what it weighs.
 -- Here an entity is a record of plain numbers and lists; the code keeps texts and lists in blocks of their own.
 use Rattle.std.specs.Prelude.{ℕ, ℤ, nat_abs, ◌+◌, ◌*◌, ◌^◌, ◌<◌, ◌≤◌, ◌≢◌, List, [], length, All, Bool, true, ◌&&◌, nat_le, IsTrue, Some, None, sum_by}
+use Rattle.osm_entity.specs.declared.parts.Member.{Member}
 use Rattle.osm_entity.specs.declared.parts.Tag.{Tag}
 use Rattle.osm_entity.specs.declared.parts.Place.{Place}
 use Rattle.osm_entity.specs.declared.parts.Body.{Body}
@@ -32,15 +33,23 @@ body_fits (Node None) = true
 body_fits (Way refs) = true
 body_fits (Relation members) = true
 
--- 32 for each ref; 32 and the bytes of its role for each member
+-- what a tag weighs: 32 and its bytes
+abbrev pub tag_weight : Tag → ℕ
+tag_weight t = 32 + length t.key + length t.value
+
+-- what a member weighs: 32 and the bytes of its role
+abbrev pub member_weight : Member → ℕ
+member_weight m = 32 + length m.role
+
+-- 32 for each ref; the sum over the members
 abbrev pub body_weight : Body → ℕ
 body_weight (Node place) = 0
 body_weight (Way refs) = 32 * length refs
-body_weight (Relation members) = sum_by (λ m. 32 + length m.role) members
+body_weight (Relation members) = sum_by member_weight members
 
 -- 128, all text bytes, and 32 for each tag, ref and member
 abbrev pub weight_of : EntityValue → ℕ
-weight_of e = 128 + length e.user + sum_by (λ t. 32 + length t.key + length t.value) e.tags + body_weight e.body
+weight_of e = 128 + length e.user + sum_by tag_weight e.tags + body_weight e.body
 
 -- what every entity keeps
 pub record IsEntity (e : EntityValue) : Type 0 where

@@ -2,6 +2,7 @@
 //! messages, the verdicts of tasks, and a count of steps.
 #![tactic(auto)]
 
+mod duplicating;
 mod entity;
 mod item;
 mod kind;
@@ -14,6 +15,7 @@ mod stream;
 mod tests;
 mod text;
 mod verdict;
+mod weighing;
 
 pub use entity::Entity;
 pub use item::{Act, Item, Items};
@@ -25,3 +27,4 @@ pub use steps::Steps;
 pub use stream::{End, Message, Want};
 pub use text::{Text, TextError};
 pub use verdict::{Cause, Spot, Verdict};
+pub use weighing::weight;

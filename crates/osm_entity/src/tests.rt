@@ -2,9 +2,10 @@
 use crate::entity::Entity;
 use crate::item::{Act, Item};
 use crate::kind::{Key, Kind};
-use crate::parts::{Body, Tags};
+use crate::parts::{Body, Place, Refs, Tags};
 use crate::sequence::Bytes;
 use crate::text::{Text, TextError};
+use crate::weighing::weight;
 use std::test::Fail;
 
 #[test]
@@ -98,5 +99,40 @@ fn keys_are_ordered_by_kind_and_then_by_signed_id(rt: HostRuntime) -> Result<(),
             id: 7
         }
     );
+    Ok(())
+}
+
+#[test]
+fn a_weight_counts_text_bytes_and_32_for_each_part(rt: HostRuntime) -> Result<(), Fail> {
+    let alloc = rt.alloc();
+    let node = Entity {
+        id: 1,
+        version: 1,
+        time: 0,
+        changeset: 0,
+        uid: 0,
+        user: Text::new(alloc),
+        tags: Tags::new(alloc),
+        body: Body::Node(Some(Place { lon: 0, lat: 0 })),
+    };
+    assert_eq!(rt; weight(&node), 128);
+    let way = Item {
+        act: Act::Delete,
+        entity: Entity {
+            id: -7,
+            version: 2,
+            time: 5,
+            changeset: 6,
+            uid: 7,
+            user: Text::new(alloc),
+            tags: Tags::new(alloc),
+            body: Body::Way(Refs::new(alloc)),
+        },
+    };
+    let copy = way.copy(alloc)?;
+    assert_eq!(rt; copy.key(), way.key());
+    assert_eq!(rt; copy.act, Act::Delete);
+    assert_eq!(rt; copy.entity.changeset, 6);
+    assert_eq!(rt; weight(&copy.entity), 128);
     Ok(())
 }
