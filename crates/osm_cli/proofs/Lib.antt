@@ -5,6 +5,8 @@ pub mod CountLemmas
 pub mod KnownLemmas
 pub mod FileLemmas
 pub mod FaultLemmas
+pub mod OpeningLemmas
 pub mod OutcomeLemmas
+pub mod CopyFaults
 pub mod WordLemmas
 pub mod CauseLemmas

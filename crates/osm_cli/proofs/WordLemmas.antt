@@ -28,14 +28,14 @@ pub record IsCopy (from to : List ℕ) : Type 0 where
 
 pub copy_parts : (read from write to : List ℕ) → are_copy read from write to ≡ true → IsCopy from to
 copy_parts read from write to copy =
-    let a = and_parts (bytes_eq read (codes "--read-opl") && names_file from && bytes_eq write
+    let differ = and_parts (bytes_eq read (codes "--read-opl") && names_file from && bytes_eq write
     (codes "--write-opl") && names_file to) (not (bytes_eq from to)) copy in
-    let b = and_parts (bytes_eq read (codes "--read-opl") && names_file from && bytes_eq write
-    (codes "--write-opl")) (names_file to) a.0 in
-    let c = and_parts (bytes_eq read (codes "--read-opl") && names_file from) (bytes_eq write
-    (codes "--write-opl")) b.0 in
-    let d = and_parts (bytes_eq read (codes "--read-opl")) (names_file from) c.0 in
-    record { from_names = d.1; to_names = b.1; apart = not_true (bytes_eq from to) a.1 }
+    let to_file = and_parts (bytes_eq read (codes "--read-opl") && names_file from && bytes_eq write
+    (codes "--write-opl")) (names_file to) differ.0 in
+    let writes = and_parts (bytes_eq read (codes "--read-opl") && names_file from) (bytes_eq write
+    (codes "--write-opl")) to_file.0 in
+    let from_file = and_parts (bytes_eq read (codes "--read-opl")) (names_file from) writes.0 in
+    record { from_names = from_file.1; to_names = to_file.1; apart = not_true (bytes_eq from to) differ.1 }
 
 -- the names of a copy differ
 pub names_differ : (from to : List ℕ) → IsCopy from to → name_in from ≡ name_in to → ⊥

@@ -97,7 +97,7 @@ pub data UncleanBy (plan : Plan) (before after : Moment) (status : Status) (entr
   AtLimit : source_limit < entry.given → UncleanBy plan before after status entry
   AtPull : RoseAt plan Reads Pull before after entry.task → UncleanBy plan before after status entry
 
--- an entry is not clean only where memory was wanted, a file was not opened, the input is wrong, the limit was passed or a pull failed
+-- an entry is clean but after want of memory, a failed open, a wrong input, too many bytes or a failed pull
 abbrev pub UncleanCause : Option Plan → Moment → Moment → Status → Type 0
 UncleanCause plan before after status =
     All (λ e. e.clean ≡ false → OfPlan plan (λ p. UncleanBy p before after status e)) status.ends

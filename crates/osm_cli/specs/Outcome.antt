@@ -41,7 +41,7 @@ GivesFile (Some files) (Gave name bytes clean unpulled) =
     (file : List ℕ) × (finite.get files name ≡ Some file) × IsFront bytes clean file
 GivesFile told part = ⊤
 
--- a source whose end came had no failed pull and gave no more than the limit; one that was cut off within the limit had a failed pull
+-- a source that ended had no failed pull and stayed within the limit; one cut off within it had a failed pull
 abbrev pub PullsAs : Meaning → ℕ × Part → Type 0
 PullsAs m (task, Gave name bytes clean unpulled) =
     (clean ≡ true → unpulled ≡ false)
@@ -49,7 +49,7 @@ PullsAs m (task, Gave name bytes clean unpulled) =
     × (m.finish task ≡ Cut → length bytes ≤ source_limit → unpulled ≡ true)
 PullsAs m (task, Took name unput unkept) = ⊤
 
--- a writer's file: nothing is said of it after a failed keep; after a failed put it is a front of the writer's bytes; else all of them
+-- a writer's file is its bytes, or a front of them after a failed put; after a failed keep nothing is said
 abbrev pub IsFileOf : List ℕ → Bool → Bool → Option (List ℕ) → Type 0
 IsFileOf bytes unput true file = ⊤
 IsFileOf bytes true false file = (k : ℕ) × (file ≡ Some (take k bytes))

@@ -39,7 +39,9 @@ fn copy_items<S: Source, K: Sink>(
     requires zero { given.old ≡ 0 }
     ensures source_name { S.name source.new ≡ S.name source.old }
     ensures sink_name { K.name sink.new ≡ K.name sink.old }
-    ensures ran { IfOk result (TasksRan S.rest S.given S.faults source.old source.new K.taken K.faults sink.old sink.new given.new) }
+    ensures ran { IfOk result
+        (TasksRan S.rest S.given S.faults source.old source.new
+        K.taken K.faults sink.old sink.new given.new) }
     ensures err { OnErr result (GaveUnheld S.rest S.given source.old source.new given.new) }
     ensures pulls { S.faults source.old ≤ S.faults source.new }
     ensures puts { K.faults sink.old ≤ K.faults sink.new }
@@ -60,7 +62,9 @@ fn copy_items<S: Source, K: Sink>(
 /// Copies the items of the file `from` to the file `to`, and answers the status of that run.
 pub fn copy_file<H: Host>(alloc: Global, from: &Text, to: &Text, host: &mut H) -> Status
     requires { from.now ≢ to.now }
-    ensures outcome { IsOutcome (Some (copy_plan from.now to.now)) copied (moment H.files H.said H.mute H.count H.gave H.known host.old) (moment H.files H.said H.mute H.count H.gave H.known host.new) result }
+    ensures outcome { IsOutcome (Some (copy_plan from.now to.now)) copied
+        (moment H.files H.said H.mute H.count H.gave H.known host.old)
+        (moment H.files H.said H.mute H.count H.gave H.known host.new) result }
     ensures code { result.code ≡ code_of result.fault }
     ensures said { H.said host.new ≡ H.said host.old }
     ensures mute { H.mute host.new ≡ H.mute host.old }
@@ -116,8 +120,8 @@ fn source_end(given: u64, ran: Result<Ran, NoMemory>) -> SourceEnd
     }
 }
 
-// The fault of a copy: the reader's before the writer's, the writer's before the keep's, and want of
-// memory before all.
+// The fault of a copy: the reader's before the writer's, the writer's before the keep's, and want
+// of memory before all.
 fn fault_after(ran: Result<Ran, NoMemory>, kept: Result<(), HostError>) -> Fault
     ensures { result ≡ fault_by ran kept }
 {

@@ -19,8 +19,8 @@ pub enum PullEnd {
     TooLong,
 }
 
-/// Pulls until the source ends, fails or passes the limit. `bytes` has what it gave, and `given` how
-/// much; at `Err` what came last isn't in `bytes`, and `given` counts it all the same.
+/// Pulls until the source ends, fails or passes the limit. `bytes` has what it gave, and `given`
+/// how much; at `Err` what came last isn't in `bytes`, and `given` counts it all the same.
 pub fn gather<S: Source>(
     source: &mut S,
     piece: &mut [u8],

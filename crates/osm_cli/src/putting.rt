@@ -15,8 +15,10 @@ use std::alloc::Global;
 pub fn put_items<K: Sink>(alloc: Global, sink: &mut K, items: &[Item]) -> Result<(), HostError>
     requires { All IsPlain items.now }
     ensures name { K.name sink.new ≡ K.name sink.old }
-    ensures ok { OnOk result (K.taken sink.new ≡ append_known (K.taken sink.old) (flat_map line_text items.now)) }
-    ensures err { OnErr result (TookFront (flat_map line_text items.now) (K.taken sink.old) (K.taken sink.new)) }
+    ensures ok { OnOk result
+        (K.taken sink.new ≡ append_known (K.taken sink.old) (flat_map line_text items.now)) }
+    ensures err { OnErr result
+        (TookFront (flat_map line_text items.now) (K.taken sink.old) (K.taken sink.new)) }
     ensures faults { CountsRefusal result (K.faults sink.old) (K.faults sink.new) }
 {
     let mut line = Bytes::new(alloc);
@@ -30,8 +32,10 @@ pub fn put_items<K: Sink>(alloc: Global, sink: &mut K, items: &[Item]) -> Result
 fn put_item<K: Sink>(sink: &mut K, line: &mut Bytes, item: &Item) -> Result<(), HostError>
     requires { IsPlain item.now }
     ensures name { K.name sink.new ≡ K.name sink.old }
-    ensures ok { OnOk result (K.taken sink.new ≡ append_known (K.taken sink.old) (line_text item.now)) }
-    ensures err { OnErr result (TookFront (line_text item.now) (K.taken sink.old) (K.taken sink.new)) }
+    ensures ok { OnOk result
+        (K.taken sink.new ≡ append_known (K.taken sink.old) (line_text item.now)) }
+    ensures err { OnErr result
+        (TookFront (line_text item.now) (K.taken sink.old) (K.taken sink.new)) }
     ensures faults { CountsRefusal result (K.faults sink.old) (K.faults sink.new) }
 {
     line.truncate(0);

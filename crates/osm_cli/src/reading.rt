@@ -36,7 +36,9 @@ pub fn read_source<S: Source>(
     requires fresh { S.given source.old ≡ 0 }
     requires zero { given.old ≡ 0 }
     ensures name { S.name source.new ≡ S.name source.old }
-    ensures read { IfOk result (λ r. SourceIsRead S.rest S.given S.faults source.old source.new given.new r.clean r.verdict (reading_seen r.read)) }
+    ensures read { IfOk result
+        (λ r. SourceIsRead S.rest S.given S.faults source.old source.new given.new
+        r.clean r.verdict (reading_seen r.read)) }
     ensures plain { IfOk result (λ r. All IsPlain r.read.items) }
     ensures err { OnErr result (GaveUnheld S.rest S.given source.old source.new given.new) }
     ensures later { S.faults source.old ≤ S.faults source.new }

@@ -17,16 +17,18 @@ use std::sync::ledger::Ledger;
 
 /// Runs the command of these words on one thread, and answers its status. It always returns.
 ///
-/// One command is built: `--read-opl file=FROM --write-opl file=TO`, with two names that differ. Any
-/// other list of words is `NotBuilt` at task 0, and opens and changes no file. Nothing is said yet, and
-/// `steps` counts nothing yet.
+/// One command is built: `--read-opl file=FROM --write-opl file=TO`, with two names that differ.
+/// Any other list of words is `NotBuilt` at task 0, and opens and changes no file. Nothing is said
+/// yet, and `steps` counts nothing yet.
 pub fn run_alone<H: Host, L: Ledger>(
     alloc: Global,
     words: &[Text],
     host: &mut H,
     _steps: &mut Steps<L>,
 ) -> Status
-    ensures outcome { IsOutcome (plan_of words.now) copied (moment H.files H.said H.mute H.count H.gave H.known host.old) (moment H.files H.said H.mute H.count H.gave H.known host.new) result }
+    ensures outcome { IsOutcome (plan_of words.now) copied
+        (moment H.files H.said H.mute H.count H.gave H.known host.old)
+        (moment H.files H.said H.mute H.count H.gave H.known host.new) result }
     ensures code { result.code ≡ code_of result.fault }
 
     // What has to be so for each answer to come.
@@ -67,7 +69,9 @@ fn copy_named<H: Host>(alloc: Global, from: &Text, to: &Text, host: &mut H) -> S
     requires from { IsTrue (names_file from.now) }
     requires to { IsTrue (names_file to.now) }
     requires differ { name_in from.now ≢ name_in to.now }
-    ensures outcome { IsOutcome (Some (copy_plan (name_in from.now) (name_in to.now))) copied (moment H.files H.said H.mute H.count H.gave H.known host.old) (moment H.files H.said H.mute H.count H.gave H.known host.new) result }
+    ensures outcome { IsOutcome (Some (copy_plan (name_in from.now) (name_in to.now))) copied
+        (moment H.files H.said H.mute H.count H.gave H.known host.old)
+        (moment H.files H.said H.mute H.count H.gave H.known host.new) result }
     ensures code { result.code ≡ code_of result.fault }
     ensures said { H.said host.new ≡ H.said host.old }
     ensures mute { H.mute host.new ≡ H.mute host.old }

@@ -1,4 +1,4 @@
-//! Runs on hosts in memory: what the files, the status and the entries are, line by line of a table.
+//! Runs on hosts in memory: what files, status and entries are, line by line of a table.
 ghost use Rattle.std.specs.Prelude.{◌≡◌, ◌≢◌, ◌<◌, IfOk};
 ghost use Rattle.std.specs.List.{AllPairs};
 
@@ -158,138 +158,41 @@ fn not_built(line: u64) -> Fault {
     }
 }
 
+/// The copies: a sentence, `a`, the pieces, the call that fails, `b` afterwards, the fault, the entry.
+#[rattlefmt::skip]
+fn copies() -> [Row; 14] {
+    let open_a = device(0, DeviceCall::Open);
+    let open_b = device(1, DeviceCall::Open);
+    let read = device(0, DeviceCall::Read);
+    let write = device(1, DeviceCall::Write);
+    let keep = device(1, DeviceCall::Keep);
+    let clean = Fault::Clean;
+    let node: Option<&[u8]> = Some(b"n1 x1.5 y2\n");
+    let unended: Option<&[u8]> = Some(b"n1 x1.5 y2");
+    let digits = b"n1 v0 dV c0 t i0 u T x1 y1\n";
+    let half = b"n1 v0 dV c0 t ";
+    [
+        ("an empty file is copied", Some(b""), BOTH, NONE, b"", clean, (0, true)),
+        ("a node is copied", node, BOTH, NONE, LINE, clean, (11, true)),
+        ("digits alone are degrees", Some(b"n1 x1 y1\n"), BOTH, NONE, digits, clean, (9, true)),
+        ("a line without a newline is read", unended, BOTH, NONE, LINE, clean, (10, true)),
+        ("the second pull fails", unended, (4096, 4096), (b"a", Op::Pull, 2), b"", read, (10, false)),
+        ("the eleventh pull fails", unended, (1, 1), (b"a", Op::Pull, 11), b"", read, (10, false)),
+        ("a way is not built", Some(b"n1 x1.5 y2\nw5\n"), BOTH, NONE, LINE, not_built(2), (14, true)),
+        ("a longitude past 180", Some(b"n1 x181 y0\n"), BOTH, NONE, b"", not_built(1), (11, true)),
+        ("zeros lead and end", Some(b"n01 x1.50 y2\n"), BOTH, NONE, LINE, clean, (13, true)),
+        ("a bad line is before a failed pull", Some(b"x\nn1 x0"), (4096, 4096),
+            (b"a", Op::Pull, 2), b"", not_built(1), (7, false)),
+        ("there is no file to read", None, BOTH, NONE, BEFORE, open_a, (0, false)),
+        ("no file can be made", node, BOTH, (b"b", Op::Make, 1), BEFORE, open_b, (0, false)),
+        ("the first put fails", node, BOTH, (b"b", Op::Put, 1), half, write, (11, true)),
+        ("the keep fails", node, BOTH, (b"b", Op::Keep, 1), b"", keep, (11, true)),
+    ]
+}
+
 #[test]
 fn a_copy_is_as_its_row_says(rt: HostRuntime) -> Result<(), Fail> {
-    let read = device(0, DeviceCall::Read);
-    let table: [Row; 14] = [
-        (
-            "an empty file",
-            Some(b""),
-            BOTH,
-            NONE,
-            b"",
-            Fault::Clean,
-            (0, true),
-        ),
-        (
-            "a node",
-            Some(b"n1 x1.5 y2\n"),
-            BOTH,
-            NONE,
-            LINE,
-            Fault::Clean,
-            (11, true),
-        ),
-        (
-            "digits alone",
-            Some(b"n1 x1 y1\n"),
-            BOTH,
-            NONE,
-            b"n1 v0 dV c0 t i0 u T x1 y1\n",
-            Fault::Clean,
-            (9, true),
-        ),
-        (
-            "no newline at the end",
-            Some(b"n1 x1.5 y2"),
-            BOTH,
-            NONE,
-            LINE,
-            Fault::Clean,
-            (10, true),
-        ),
-        (
-            "the second pull fails",
-            Some(b"n1 x1.5 y2"),
-            (4096, 4096),
-            (b"a", Op::Pull, 2),
-            b"",
-            read,
-            (10, false),
-        ),
-        (
-            "the eleventh pull fails",
-            Some(b"n1 x1.5 y2"),
-            (1, 1),
-            (b"a", Op::Pull, 11),
-            b"",
-            read,
-            (10, false),
-        ),
-        (
-            "another kind of line",
-            Some(b"n1 x1.5 y2\nw5\n"),
-            BOTH,
-            NONE,
-            LINE,
-            not_built(2),
-            (14, true),
-        ),
-        (
-            "a longitude past 180",
-            Some(b"n1 x181 y0\n"),
-            BOTH,
-            NONE,
-            b"",
-            not_built(1),
-            (11, true),
-        ),
-        (
-            "zeros that say nothing",
-            Some(b"n01 x1.50 y2\n"),
-            BOTH,
-            NONE,
-            LINE,
-            Fault::Clean,
-            (13, true),
-        ),
-        (
-            "a bad line before a failed pull",
-            Some(b"x\nn1 x0"),
-            (4096, 4096),
-            (b"a", Op::Pull, 2),
-            b"",
-            not_built(1),
-            (7, false),
-        ),
-        (
-            "no file to read",
-            None,
-            BOTH,
-            NONE,
-            BEFORE,
-            device(0, DeviceCall::Open),
-            (0, false),
-        ),
-        (
-            "no file to write",
-            Some(b"n1 x1.5 y2\n"),
-            BOTH,
-            (b"b", Op::Make, 1),
-            BEFORE,
-            device(1, DeviceCall::Open),
-            (0, false),
-        ),
-        (
-            "the first put fails",
-            Some(b"n1 x1.5 y2\n"),
-            BOTH,
-            (b"b", Op::Put, 1),
-            b"n1 v0 dV c0 t ",
-            device(1, DeviceCall::Write),
-            (11, true),
-        ),
-        (
-            "the keep fails",
-            Some(b"n1 x1.5 y2\n"),
-            BOTH,
-            (b"b", Op::Keep, 1),
-            b"",
-            device(1, DeviceCall::Keep),
-            (11, true),
-        ),
-    ];
-    for row in table {
+    for row in copies() {
         for piece in [row.2.0, row.2.1] {
             check(&rt, row, piece.max(1))?;
         }

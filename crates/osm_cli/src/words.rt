@@ -8,9 +8,10 @@ use std::alloc::Global;
 /// What stands before the name in a word that gives a file.
 const FILE: &[u8] = b"file=";
 
-/// The two words that give the files of a copy, where the words are a copy's; `None` for all others.
+/// The two words that give the files, where the words are those of a copy; `None` for all others.
 pub fn copied_words(words: &[Text]) -> Option<(&Text, &Text)>
-    ensures some { IfSome result (λ p. plan_of words.now ≡ Some (copy_plan (name_in p.0.now) (name_in p.1.now))) }
+    ensures some { IfSome result
+        (λ p. plan_of words.now ≡ Some (copy_plan (name_in p.0.now) (name_in p.1.now))) }
     ensures from { IfSome result (λ p. IsTrue (names_file p.0.now)) }
     ensures to { IfSome result (λ p. IsTrue (names_file p.1.now)) }
     ensures differ { IfSome result (λ p. name_in p.0.now ≢ name_in p.1.now) }

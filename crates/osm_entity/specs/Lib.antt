@@ -1,3 +1,4 @@
 pub mod Entities
 pub mod Items
+pub mod Seen
 pub mod Streams

@@ -4,7 +4,8 @@ use crate::text::Text;
 use std::marker::Model;
 
 /// A node, a way or a relation. It keeps: version and uid at most 2^31 - 1, changeset at most
-/// 2^63 - 1, no empty tag key, a place within 180 and 90 degrees, and a weight of at most 2,097,152.
+/// 2^63 - 1, no empty tag key, a place within 180 and 90 degrees, and a weight of at most
+/// 2,097,152.
 #[derive(Debug, Drop)]
 pub struct Entity {
     pub id: i64,
@@ -23,9 +24,11 @@ impl Model for Entity {
 
     ghost Value = { EntityValue };
 
-    ghost view = { λ e. record { id = e.id; version = e.version; time = e.time; changeset = e.changeset; uid = e.uid; user = e.user; tags = e.tags; body = e.body } };
+    ghost use Rattle.osm_entity.specs.Seen.{entity_seen};
 
-    ghost invariant = { λ e. IsEntity (record { id = e.id; version = e.version; time = e.time; changeset = e.changeset; uid = e.uid; user = e.user; tags = e.tags; body = e.body }) };
+    ghost view = { entity_seen };
+
+    ghost invariant = { λ e. IsEntity (entity_seen e) };
 }
 
 impl Entity {

@@ -11,7 +11,8 @@ pub struct Tag {
     pub value: Text,
 }
 
-/// A point, in nanodegrees: 1,000,000,000 to a degree. An entity keeps it within 180 and 90 degrees.
+/// A point, in nanodegrees: 1,000,000,000 to a degree. An entity keeps it within 180 and 90
+/// degrees.
 #[derive(Clone, Copy, Debug, PartialEq, Eq)]
 pub struct Place {
     /// East of Greenwich.

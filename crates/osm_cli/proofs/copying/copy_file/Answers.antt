@@ -4,7 +4,8 @@ use Rattle.osm_host.specs.Counts.{Adds, GaveOnly}
 use Rattle.osm_host.specs.Moments.{moment}
 use Rattle.osm_host.specs.declared.outside.Op.TheVariants.{Open, Make, Pull}
 use Rattle.osm_cli.proofs.CountLemmas.{counts_kept, counts_then_kept, adds_nothing, gave_nothing}
-use Rattle.osm_cli.proofs.OutcomeLemmas.{at_err, at_ok, source_not_opened, entries_not_held, sink_not_opened, opened_outcome}
+use Rattle.osm_cli.proofs.OpeningLemmas.{at_err, at_ok, source_not_opened, entries_not_held, sink_not_opened}
+use Rattle.osm_cli.proofs.OutcomeLemmas.{opened_outcome}
 use Rattle.osm_cli.proofs.copying.copy_file.Goals as goal
 
 pub returns-in-Err-clause-outcome : goal.returns-in-Err-clause-outcome

@@ -1,7 +1,7 @@
 use Rattle.std.proofs.Common.{◌∙◌}
 use Rattle.osm_host.specs.Moments.{moment}
 use Rattle.osm_cli.specs.Plan.{name_in}
-use Rattle.osm_cli.proofs.OutcomeLemmas.{unchanged_at_memory}
+use Rattle.osm_cli.proofs.OpeningLemmas.{unchanged_at_memory}
 use Rattle.osm_cli.proofs.running.copy_named.Goals as goal
 
 pub returns-in_default-clause-outcome : goal.returns-in_default-clause-outcome
