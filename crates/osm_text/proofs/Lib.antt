@@ -1,3 +1,4 @@
+mod CalendarLemmas
 mod DigitsLemmas
 mod FractionLemmas
 mod KeptLemmas

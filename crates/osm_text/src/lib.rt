@@ -1,6 +1,7 @@
 //! Numbers as texts, both ways: whole numbers, and degrees in nanodegrees.
 #![tactic(auto)]
 
+mod calendar;
 mod cutting;
 mod digits;
 mod fraction;

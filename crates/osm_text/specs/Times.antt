@@ -1,0 +1,84 @@
+-- Times as texts, as 2010-01-01T00:00:00Z: the calendar, and seconds since 1970-01-01T00:00:00Z.
+-- Here days are counted year by year, month by month and day by day; the code divides.
+use Rattle.std.specs.Prelude.{ℕ, zero, suc, ◌+◌, ◌-◌, ◌*◌, ◌/◌, ◌%◌, ◌^◌, List, [], ◌∷◌, ◌++◌, length, take, drop, Bool, not, ◌&&◌, ◌||◌, ◌==◌, nat_lt, nat_le, if◌then◌else◌, Option, Some, None, slice_index}
+use Rattle.std.specs.Char.{is_digit}
+use Rattle.std.specs.List.{list_all}
+use Rattle.std.specs.Str.Parse.{digits_value}
+
+-- every fourth year is a leap year, but of the centuries only every fourth
+abbrev pub is_leap : ℕ → Bool
+is_leap year = (year % 4 == 0) && (not (year % 100 == 0) || (year % 400 == 0))
+
+-- the days of a year
+abbrev pub year_length : ℕ → ℕ
+year_length year = if is_leap year then 366 else 365
+
+-- the days of a month: thirty days have September, April, June and November
+abbrev pub month_length : ℕ → ℕ → ℕ
+month_length year month =
+    if month == 2 then (if is_leap year then 29 else 28)
+    else (if (month == 4) || (month == 6) || (month == 9) || (month == 11) then 30 else 31)
+
+-- a date from 1970 on exists: its month is one of twelve, its day one of the month's
+abbrev pub is_date : ℕ → ℕ → ℕ → Bool
+is_date year month day =
+    nat_le 1970 year && nat_lt 0 month && nat_le month 12 && nat_lt 0 day && nat_le day (month_length year month)
+
+-- the days of so many years from 1970 on
+unfoldable pub days_of_years : ℕ → ℕ
+days_of_years zero = 0
+days_of_years (suc count) = days_of_years count + year_length (1970 + count)
+
+-- the days of the first so many months of a year
+unfoldable pub days_of_months : ℕ → ℕ → ℕ
+days_of_months year zero = 0
+days_of_months year (suc count) = days_of_months year count + month_length year (suc count)
+
+-- the days from 1970-01-01 to a date
+abbrev pub day_number : ℕ → ℕ → ℕ → ℕ
+day_number year month day = days_of_years (year - 1970) + days_of_months year (month - 1) + (day - 1)
+
+-- a time of a day exists
+abbrev pub is_clock : ℕ → ℕ → ℕ → Bool
+is_clock hour minute second = nat_lt hour 24 && nat_lt minute 60 && nat_lt second 60
+
+-- the seconds from midnight to a time of the day
+abbrev pub clock_seconds : ℕ → ℕ → ℕ → ℕ
+clock_seconds hour minute second = hour * 3600 + minute * 60 + second
+
+-- a number of seconds below 2^32
+abbrev pub fitting_time : ℕ → Option ℕ
+fitting_time seconds = if nat_lt seconds (2 ^ 32) then Some seconds else None
+
+-- the seconds to a date and a time of the day, where both exist and the seconds fit 32 bits
+abbrev pub time_of : ℕ → ℕ → ℕ → ℕ → ℕ → ℕ → Option ℕ
+time_of year month day hour minute second =
+    if is_date year month day && is_clock hour minute second
+    then fitting_time (day_number year month day * 86400 + clock_seconds hour minute second) else None
+
+-- the places of the digits in YYYY-MM-DDTHH:MM:SSZ
+abbrev pub digit_places : List ℕ
+digit_places = 0 ∷ 1 ∷ 2 ∷ 3 ∷ 5 ∷ 6 ∷ 8 ∷ 9 ∷ 11 ∷ 12 ∷ 14 ∷ 15 ∷ 17 ∷ 18 ∷ []
+
+-- two hyphens, a T, two colons and a Z stand at their places
+abbrev pub has_marks : List ℕ → Bool
+has_marks bytes =
+    (slice_index bytes 4 == 45) && (slice_index bytes 7 == 45) && (slice_index bytes 10 == 84) &&
+    (slice_index bytes 13 == 58) && (slice_index bytes 16 == 58) && (slice_index bytes 19 == 90)
+
+-- twenty bytes of the form YYYY-MM-DDTHH:MM:SSZ
+abbrev pub has_form : List ℕ → Bool
+has_form bytes =
+    (length bytes == 20) && has_marks bytes && list_all (λ k. is_digit (slice_index bytes k) 10) digit_places
+
+-- the number that so many digits write from a place on
+abbrev pub number_at : ℕ → ℕ → List ℕ → ℕ
+number_at place count bytes = digits_value 10 (take count (drop place bytes))
+
+-- a time is a text of this form whose date and time of the day exist, in seconds since 1970-01-01T00:00:00Z
+abbrev pub time : List ℕ → Option ℕ
+time bytes =
+    if has_form bytes
+    then time_of (number_at 0 4 bytes) (number_at 5 2 bytes) (number_at 8 2 bytes)
+      (number_at 11 2 bytes) (number_at 14 2 bytes) (number_at 17 2 bytes)
+    else None

@@ -1,0 +1,76 @@
+//! The Gregorian calendar from 1970 on: dates that exist, and the days before them.
+ghost use Rattle.std.specs.Prelude.{◌≡◌, ◌<◌, ◌≤◌, ◌-◌, ◌+◌, ◌*◌, None, Some, if◌then◌else◌};
+ghost use Rattle.osm_text.specs.Times.{day_number, days_of_months, days_of_years, is_date, is_leap};
+ghost use Rattle.osm_text.specs.Times.{month_length};
+
+/// Every fourth year, but of the centuries only every fourth.
+fn is_leap_year(year: u32) -> bool
+    ensures { result ≡ is_leap year }
+{
+    year % 4 == 0 && (year % 100 != 0 || year % 400 == 0)
+}
+
+/// The days of so many years from 1970 on.
+pub(crate) fn years(count: u32) -> u32
+    requires { count < 10_000 }
+    ensures value { result ≡ days_of_years count }
+    ensures size { result ≤ 366 * count }
+{
+    365 * count + (count + 1) / 4 - (count + 69) / 100 + (count + 369) / 400
+}
+
+/// The days of the first so many months of a year.
+#[tactic(auto, unfolding(crate::specs::Times::days_of_months))]
+pub(crate) fn months(year: u32, count: u32) -> u32
+    requires { count < 12 }
+    ensures value { result ≡ days_of_months year count }
+    ensures size { result ≤ 335 }
+{
+    let leap_day = u32::from(is_leap_year(year));
+    match count {
+        0 => 0,
+        1 => 31,
+        2 => 59 + leap_day,
+        3 => 90 + leap_day,
+        4 => 120 + leap_day,
+        5 => 151 + leap_day,
+        6 => 181 + leap_day,
+        7 => 212 + leap_day,
+        8 => 243 + leap_day,
+        9 => 273 + leap_day,
+        10 => 304 + leap_day,
+        _ => 334 + leap_day,
+    }
+}
+
+/// The days of a month.
+fn length_of_month(year: u32, month: u32) -> u32
+    ensures { result ≡ month_length year month }
+{
+    match month {
+        2 => 28 + u32::from(is_leap_year(year)),
+        4 | 6 | 9 | 11 => 30,
+        _ => 31,
+    }
+}
+
+/// Whether a date from 1970 on exists.
+fn exists(year: u32, month: u32, day: u32) -> bool
+    ensures { result ≡ is_date year month day }
+{
+    let is_month = 1970 <= year && 0 < month && month <= 12;
+    is_month && 0 < day && day <= length_of_month(year, month)
+}
+
+/// The days from 1970-01-01 to a date; `None` where it doesn't exist.
+pub(crate) fn day_of(year: u32, month: u32, day: u32) -> Option<u32>
+    requires { year < 10_000 }
+    ensures { result ≡ (
+        if is_date year month day then Some (day_number year month day) else None) }
+{
+    if exists(year, month, day) {
+        Some(years(year - 1970) + months(year, month - 1) + (day - 1))
+    } else {
+        None
+    }
+}
