@@ -1,8 +1,7 @@
 -- The days of years and months in closed form.
-use Rattle.std.proofs.Common.{◌≡◌, ◌<◌, ◌≤◌, ◌+◌, ◌-◌, ◌*◌, ◌/◌, ◌%◌, ℕ, zero, suc, Bool, true, false, refl, arith}
-use Rattle.std.specs.Prelude.{if◌then◌else◌, ◌&&◌, ◌||◌, not, ◌==◌}
+use Rattle.std.proofs.Common.{◌≡◌, ◌≤◌, ◌+◌, ◌*◌, ◌/◌, ℕ, zero, suc, refl, arith}
 use Rattle.std.proofs.lemmas.Bool.Decides.{nat_tests}
-use Rattle.osm_text.specs.Times.{is_leap, year_length, month_length, days_of_years, days_of_months}
+use Rattle.osm_text.specs.Times.{year_length, days_of_years}
 
 -- one year more
 year-step : (k : ℕ) →

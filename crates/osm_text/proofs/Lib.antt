@@ -1,5 +1,6 @@
 mod CalendarLemmas
 mod DigitsLemmas
+mod FormLemmas
 mod FractionLemmas
 mod KeptLemmas
 mod ReadBackLemmas

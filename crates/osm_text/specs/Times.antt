@@ -1,6 +1,6 @@
 -- Times as texts, as 2010-01-01T00:00:00Z: the calendar, and seconds since 1970-01-01T00:00:00Z.
 -- Here days are counted year by year, month by month and day by day; the code divides.
-use Rattle.std.specs.Prelude.{ℕ, zero, suc, ◌+◌, ◌-◌, ◌*◌, ◌/◌, ◌%◌, ◌^◌, List, [], ◌∷◌, ◌++◌, length, take, drop, Bool, not, ◌&&◌, ◌||◌, ◌==◌, nat_lt, nat_le, if◌then◌else◌, Option, Some, None, slice_index}
+use Rattle.std.specs.Prelude.{ℕ, zero, suc, ◌+◌, ◌-◌, ◌*◌, ◌%◌, ◌^◌, List, [], ◌∷◌, length, take, drop, Bool, not, ◌&&◌, ◌||◌, ◌==◌, nat_lt, nat_le, if◌then◌else◌, Option, Some, None, slice_index}
 use Rattle.std.specs.Char.{is_digit}
 use Rattle.std.specs.List.{list_all}
 use Rattle.std.specs.Str.Parse.{digits_value}
@@ -38,6 +38,10 @@ days_of_months year (suc count) = days_of_months year count + month_length year 
 abbrev pub day_number : ℕ → ℕ → ℕ → ℕ
 day_number year month day = days_of_years (year - 1970) + days_of_months year (month - 1) + (day - 1)
 
+-- the day number of a date that exists
+abbrev pub existing_day : ℕ → ℕ → ℕ → Option ℕ
+existing_day year month day = if is_date year month day then Some (day_number year month day) else None
+
 -- a time of a day exists
 abbrev pub is_clock : ℕ → ℕ → ℕ → Bool
 is_clock hour minute second = nat_lt hour 24 && nat_lt minute 60 && nat_lt second 60
@@ -46,19 +50,26 @@ is_clock hour minute second = nat_lt hour 24 && nat_lt minute 60 && nat_lt secon
 abbrev pub clock_seconds : ℕ → ℕ → ℕ → ℕ
 clock_seconds hour minute second = hour * 3600 + minute * 60 + second
 
+-- the seconds to a time of the day that exists
+abbrev pub existing_clock : ℕ → ℕ → ℕ → Option ℕ
+existing_clock hour minute second =
+    if is_clock hour minute second then Some (clock_seconds hour minute second) else None
+
 -- a number of seconds below 2^32
 abbrev pub fitting_time : ℕ → Option ℕ
 fitting_time seconds = if nat_lt seconds (2 ^ 32) then Some seconds else None
 
--- the seconds to a date and a time of the day, where both exist and the seconds fit 32 bits
-abbrev pub time_of : ℕ → ℕ → ℕ → ℕ → ℕ → ℕ → Option ℕ
-time_of year month day hour minute second =
-    if is_date year month day && is_clock hour minute second
-    then fitting_time (day_number year month day * 86400 + clock_seconds hour minute second) else None
+-- where the two digits of a date begin, in YYYY-MM-DD
+abbrev pub date_places : List ℕ
+date_places = 0 ∷ 2 ∷ 5 ∷ 8 ∷ []
 
--- the places of the digits in YYYY-MM-DDTHH:MM:SSZ
-abbrev pub digit_places : List ℕ
-digit_places = 0 ∷ 1 ∷ 2 ∷ 3 ∷ 5 ∷ 6 ∷ 8 ∷ 9 ∷ 11 ∷ 12 ∷ 14 ∷ 15 ∷ 17 ∷ 18 ∷ []
+-- where the two digits of a time of the day begin, in HH:MM:SS after a date and a T
+abbrev pub clock_places : List ℕ
+clock_places = 11 ∷ 14 ∷ 17 ∷ []
+
+-- two digits stand at a place
+abbrev pub are_two_digits : List ℕ → ℕ → Bool
+are_two_digits bytes place = is_digit (slice_index bytes place) 10 && is_digit (slice_index bytes (place + 1)) 10
 
 -- two hyphens, a T, two colons and a Z stand at their places
 abbrev pub has_marks : List ℕ → Bool
@@ -69,16 +80,26 @@ has_marks bytes =
 -- twenty bytes of the form YYYY-MM-DDTHH:MM:SSZ
 abbrev pub has_form : List ℕ → Bool
 has_form bytes =
-    (length bytes == 20) && has_marks bytes && list_all (λ k. is_digit (slice_index bytes k) 10) digit_places
+    (length bytes == 20) && has_marks bytes &&
+    list_all (are_two_digits bytes) date_places && list_all (are_two_digits bytes) clock_places
 
 -- the number that so many digits write from a place on
 abbrev pub number_at : ℕ → ℕ → List ℕ → ℕ
 number_at place count bytes = digits_value 10 (take count (drop place bytes))
 
+-- the day number of the date in a text of this form, where the date exists
+abbrev pub day_at : List ℕ → Option ℕ
+day_at bytes = existing_day (number_at 0 4 bytes) (number_at 5 2 bytes) (number_at 8 2 bytes)
+
+-- the seconds from midnight to the time of the day in a text of this form, where that time exists
+abbrev pub clock_at : List ℕ → Option ℕ
+clock_at bytes = existing_clock (number_at 11 2 bytes) (number_at 14 2 bytes) (number_at 17 2 bytes)
+
+-- the seconds to a time of the day at a day by its number, where both are there and the seconds lie below 2^32
+abbrev pub time_at : Option ℕ → Option ℕ → Option ℕ
+time_at (Some day) (Some clock) = fitting_time (day * 86400 + clock)
+time_at day clock = None
+
 -- a time is a text of this form whose date and time of the day exist, in seconds since 1970-01-01T00:00:00Z
 abbrev pub time : List ℕ → Option ℕ
-time bytes =
-    if has_form bytes
-    then time_of (number_at 0 4 bytes) (number_at 5 2 bytes) (number_at 8 2 bytes)
-      (number_at 11 2 bytes) (number_at 14 2 bytes) (number_at 17 2 bytes)
-    else None
+time bytes = if has_form bytes then time_at (day_at bytes) (clock_at bytes) else None

@@ -1,6 +1,6 @@
 //! The Gregorian calendar from 1970 on: dates that exist, and the days before them.
-ghost use Rattle.std.specs.Prelude.{◌≡◌, ◌<◌, ◌≤◌, ◌-◌, ◌+◌, ◌*◌, None, Some, if◌then◌else◌};
-ghost use Rattle.osm_text.specs.Times.{day_number, days_of_months, days_of_years, is_date, is_leap};
+ghost use Rattle.std.specs.Prelude.{◌≡◌, ◌<◌, ◌≤◌, ◌-◌, ◌+◌, ◌*◌};
+ghost use Rattle.osm_text.specs.Times.{days_of_months, days_of_years, existing_day, is_date, is_leap};
 ghost use Rattle.osm_text.specs.Times.{month_length};
 
 /// Every fourth year, but of the centuries only every fourth.
@@ -65,8 +65,7 @@ fn exists(year: u32, month: u32, day: u32) -> bool
 /// The days from 1970-01-01 to a date; `None` where it doesn't exist.
 pub(crate) fn day_of(year: u32, month: u32, day: u32) -> Option<u32>
     requires { year < 10_000 }
-    ensures { result ≡ (
-        if is_date year month day then Some (day_number year month day) else None) }
+    ensures { result ≡ existing_day year month day }
 {
     if exists(year, month, day) {
         Some(years(year - 1970) + months(year, month - 1) + (day - 1))

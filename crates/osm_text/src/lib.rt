@@ -1,4 +1,4 @@
-//! Numbers as texts, both ways: whole numbers, and degrees in nanodegrees.
+//! Numbers and times as texts, both ways: whole numbers, degrees in nanodegrees, and times.
 #![tactic(auto)]
 
 mod calendar;
@@ -7,11 +7,13 @@ mod digits;
 mod fraction;
 mod laws;
 mod nano;
+mod time;
 mod whole;
 
 pub use cutting::first_part;
 pub use laws::{short_reads_back, whole_reads_back};
 pub use nano::{read_nano, write_nano};
+pub use time::{BadTime, read_time};
 pub use whole::{BadNumber, read_whole, write_whole};
 
 #[cfg(test)]

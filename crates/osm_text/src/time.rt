@@ -1,10 +1,11 @@
 //! Times as texts, as `2010-01-01T00:00:00Z`, both ways: seconds since 1970-01-01T00:00:00Z.
 ghost use Rattle.std.specs.Prelude.{◌≡◌, ◌<◌, ◌≤◌, ◌+◌, ◌*◌, ◌^◌, true, length, IfSome};
-ghost use Rattle.std.specs.Prelude.{None, Some, if◌then◌else◌, slice_index};
-ghost use Rattle.std.specs.Char.{is_digit};
+ghost use Rattle.std.specs.Prelude.{None, Some, if◌then◌else◌};
 ghost use Rattle.std.specs.Result.{result_ok};
-ghost use Rattle.osm_text.specs.Times.{clock_seconds, has_form, has_marks, is_clock, number_at};
-ghost use Rattle.osm_text.specs.Times.{time, time_of};
+ghost use Rattle.osm_text.specs.Times.{clock_at, clock_places, date_places};
+ghost use Rattle.osm_text.specs.Times.{day_at, existing_clock, fitting_time, time};
+ghost use Rattle.osm_text.specs.Times.{are_two_digits, has_form, has_marks, number_at};
+ghost use Rattle.std.specs.List.{list_all};
 
 use crate::calendar::day_of;
 
@@ -24,10 +25,107 @@ fn are_marks_there(bytes: &[u8]) -> bool
     is_date && bytes[13] == b':' && bytes[16] == b':' && bytes[19] == b'Z'
 }
 
-/// Whether there are digits at these places.
-fn are_digits_at(bytes: &[u8], places: &[usize]) -> bool
-    requires { length bytes.now ≡ 20 }
-    ensures { result ≡ list_all (λ k. is_digit (slice_index bytes k) 10) places.now }
+/// Whether two digits stand at a place.
+fn is_pair(bytes: &[u8], place: usize) -> bool
+    requires { place + 2 ≤ length bytes.now }
+    ensures { result ≡ are_two_digits bytes.now place }
 {
-    places.iter().all(|place| bytes[*place].is_ascii_digit())
+    bytes[place].is_ascii_digit() && bytes[place + 1].is_ascii_digit()
+}
+
+/// Whether there are digits where a date has them.
+fn has_date_digits(bytes: &[u8]) -> bool
+    requires { length bytes.now ≡ 20 }
+    ensures { result ≡ list_all (are_two_digits bytes.now) date_places }
+{
+    is_pair(bytes, 0) && is_pair(bytes, 2) && is_pair(bytes, 5) && is_pair(bytes, 8)
+}
+
+/// Whether there are digits where a time of the day has them.
+fn has_clock_digits(bytes: &[u8]) -> bool
+    requires { length bytes.now ≡ 20 }
+    ensures { result ≡ list_all (are_two_digits bytes.now) clock_places }
+{
+    is_pair(bytes, 11) && is_pair(bytes, 14) && is_pair(bytes, 17)
+}
+
+/// Whether the bytes have the form `YYYY-MM-DDTHH:MM:SSZ`.
+fn is_formed(bytes: &[u8]) -> bool
+    ensures { result ≡ has_form bytes.now }
+{
+    bytes.len() == 20 && are_marks_there(bytes) && has_date_digits(bytes) && has_clock_digits(bytes)
+}
+
+/// The number that the two digits at a place write.
+fn two_digits(bytes: &[u8], place: usize) -> u32
+    requires within { place + 2 ≤ length bytes.now }
+    requires digits { are_two_digits bytes.now place ≡ true }
+    ensures value { result ≡ number_at place 2 bytes.now }
+    ensures size { result < 100 }
+{
+    u32::from(bytes[place] - b'0') * 10 + u32::from(bytes[place + 1] - b'0')
+}
+
+/// The seconds from midnight to a time of the day; `None` where it doesn't exist.
+fn clock_of(hour: u32, minute: u32, second: u32) -> Option<u32>
+    ensures value { result ≡ existing_clock hour minute second }
+    ensures size { IfSome result (λ seconds. seconds < 86400) }
+{
+    if hour < 24 && minute < 60 && second < 60 {
+        Some(hour * 3_600 + minute * 60 + second)
+    } else {
+        None
+    }
+}
+
+/// The seconds to a time of a day by its number.
+fn seconds_of(day: u32, clock: u32) -> Result<u32, BadTime>
+    ensures { result_ok result ≡ fitting_time (day * 86400 + clock) }
+{
+    u32::try_from(u64::from(day) * DAY + u64::from(clock)).map_err(|_| BadTime)
+}
+
+/// The year, in a text of this form.
+fn year_of(bytes: &[u8]) -> u32
+    requires { has_form bytes.now ≡ true }
+    ensures value { result ≡ number_at 0 4 bytes.now }
+    ensures size { result < 10000 }
+{
+    two_digits(bytes, 0) * 100 + two_digits(bytes, 2)
+}
+
+/// The day number of the date, in a text of this form.
+fn day_in(bytes: &[u8]) -> Option<u32>
+    requires { has_form bytes.now ≡ true }
+    ensures { result ≡ day_at bytes.now }
+{
+    day_of(year_of(bytes), two_digits(bytes, 5), two_digits(bytes, 8))
+}
+
+/// The seconds from midnight to the time of the day, in a text of this form.
+fn clock_in(bytes: &[u8]) -> Option<u32>
+    requires { has_form bytes.now ≡ true }
+    ensures value { result ≡ clock_at bytes.now }
+    ensures size { IfSome result (λ seconds. seconds < 86400) }
+{
+    clock_of(
+        two_digits(bytes, 11),
+        two_digits(bytes, 14),
+        two_digits(bytes, 17),
+    )
+}
+
+/// Reads a time, as `2010-01-01T00:00:00Z`, and gives seconds since 1970-01-01T00:00:00Z.
+/// `BadTime` exactly where the text is no such time: where it has another form, its date or its
+/// time of the day doesn't exist, or it lies before 1970 or after 2106-02-07T06:28:15Z.
+pub fn read_time(bytes: &[u8]) -> Result<u32, BadTime>
+    ensures { result_ok result ≡ time bytes.now }
+{
+    if !is_formed(bytes) {
+        return Err(BadTime);
+    }
+    match (day_in(bytes), clock_in(bytes)) {
+        (Some(day), Some(clock)) => seconds_of(day, clock),
+        _ => Err(BadTime),
+    }
 }
