@@ -1,4 +1,5 @@
 mod CalendarLemmas
+mod DateLemmas
 mod DigitsLemmas
 mod FormLemmas
 mod FractionLemmas

@@ -1,6 +1,6 @@
 -- Times as texts, as 2010-01-01T00:00:00Z: the calendar, and seconds since 1970-01-01T00:00:00Z.
 -- Here days are counted year by year, month by month and day by day; the code divides.
-use Rattle.std.specs.Prelude.{ℕ, zero, suc, ◌+◌, ◌-◌, ◌*◌, ◌%◌, ◌^◌, List, [], ◌∷◌, length, take, drop, Bool, not, ◌&&◌, ◌||◌, ◌==◌, nat_lt, nat_le, if◌then◌else◌, Option, Some, None, slice_index}
+use Rattle.std.specs.Prelude.{◌≡◌, ℕ, zero, suc, ◌+◌, ◌-◌, ◌*◌, ◌/◌, ◌%◌, ◌^◌, List, [], ◌∷◌, ◌++◌, length, take, drop, Bool, not, ◌&&◌, ◌||◌, ◌==◌, nat_lt, nat_le, if◌then◌else◌, Option, Some, None, slice_index}
 use Rattle.std.specs.Char.{is_digit}
 use Rattle.std.specs.List.{list_all}
 use Rattle.std.specs.Str.Parse.{digits_value}
@@ -41,6 +41,31 @@ day_number year month day = days_of_years (year - 1970) + days_of_months year (m
 -- the day number of a date that exists
 abbrev pub existing_day : ℕ → ℕ → ℕ → Option ℕ
 existing_day year month day = if is_date year month day then Some (day_number year month day) else None
+
+-- a date: its year, month and day
+pub record DateValue : Type 0 where
+  pub year : ℕ
+  pub month : ℕ
+  pub day : ℕ
+
+-- the day after a date: the next of its month, else the first of the next month, else that of the next year
+abbrev pub next_date : DateValue → DateValue
+next_date d =
+    if nat_lt d.day (month_length d.year d.month)
+    then record { year = d.year; month = d.month; day = d.day + 1 }
+    else if nat_lt d.month 12 then record { year = d.year; month = d.month + 1; day = 1 }
+    else record { year = d.year + 1; month = 1; day = 1 }
+
+-- the date so many days after 1970-01-01, one day after another
+unfoldable pub date_after : ℕ → DateValue
+date_after zero = record { year = 1970; month = 1; day = 1 }
+date_after (suc days) = next_date (date_after days)
+
+-- the date so many days after 1970-01-01 has this year, month and day
+pub record IsDateAfter (days year month day : ℕ) : Type 0 where
+  pub is_year : (date_after days).year ≡ year
+  pub is_month : (date_after days).month ≡ month
+  pub is_day : (date_after days).day ≡ day
 
 -- a time of a day exists
 abbrev pub is_clock : ℕ → ℕ → ℕ → Bool
@@ -103,3 +128,28 @@ time_at day clock = None
 -- a time is a text of this form whose date and time of the day exist, in seconds since 1970-01-01T00:00:00Z
 abbrev pub time : List ℕ → Option ℕ
 time bytes = if has_form bytes then time_at (day_at bytes) (clock_at bytes) else None
+
+-- a number below 100 in two digits
+abbrev pub two_text : ℕ → List ℕ
+two_text n = (48 + n / 10) ∷ (48 + n % 10) ∷ []
+
+-- a date as YYYY-MM-DD
+abbrev pub date_text : ℕ → ℕ → ℕ → List ℕ
+date_text year month day =
+    two_text (year / 100) ++ two_text (year % 100) ++ 45 ∷ two_text month ++ 45 ∷ two_text day
+
+-- a time of the day as HH:MM:SS
+abbrev pub clock_text : ℕ → ℕ → ℕ → List ℕ
+clock_text hour minute second = two_text hour ++ 58 ∷ two_text minute ++ 58 ∷ two_text second
+
+-- seconds from midnight as HH:MM:SS
+abbrev pub clock_after : ℕ → List ℕ
+clock_after seconds = clock_text (seconds / 3600) (seconds / 60 % 60) (seconds % 60)
+
+-- the date after so many days as YYYY-MM-DD
+abbrev pub date_after_text : ℕ → List ℕ
+date_after_text days = date_text (date_after days).year (date_after days).month (date_after days).day
+
+-- seconds since 1970-01-01T00:00:00Z as the text of a time: days of 86,400 seconds, and the rest of a day
+unfoldable pub time_text : ℕ → List ℕ
+time_text seconds = date_after_text (seconds / 86400) ++ 84 ∷ clock_after (seconds % 86400) ++ 90 ∷ []

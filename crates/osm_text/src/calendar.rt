@@ -1,7 +1,14 @@
 //! The Gregorian calendar from 1970 on: dates that exist, and the days before them.
-ghost use Rattle.std.specs.Prelude.{◌≡◌, ◌<◌, ◌≤◌, ◌-◌, ◌+◌, ◌*◌};
+ghost use Rattle.std.specs.Prelude.{true, ◌≡◌, ◌<◌, ◌≤◌, ◌-◌, ◌+◌, ◌*◌};
 ghost use Rattle.osm_text.specs.Times.{days_of_months, days_of_years, existing_day, is_date, is_leap};
-ghost use Rattle.osm_text.specs.Times.{month_length};
+ghost use Rattle.osm_text.specs.Times.{IsDateAfter, month_length, year_length};
+
+/// A date from 1970 on.
+pub(crate) struct Date {
+    pub(crate) year: u32,
+    pub(crate) month: u32,
+    pub(crate) day: u32,
+}
 
 /// Every fourth year, but of the centuries only every fourth.
 fn is_leap_year(year: u32) -> bool
@@ -11,7 +18,7 @@ fn is_leap_year(year: u32) -> bool
 }
 
 /// The days of so many years from 1970 on.
-pub(crate) fn years(count: u32) -> u32
+fn years(count: u32) -> u32
     requires { count < 10_000 }
     ensures value { result ≡ days_of_years count }
     ensures size { result ≤ 366 * count }
@@ -21,7 +28,7 @@ pub(crate) fn years(count: u32) -> u32
 
 /// The days of the first so many months of a year.
 #[tactic(auto, unfolding(crate::specs::Times::days_of_months))]
-pub(crate) fn months(year: u32, count: u32) -> u32
+fn months(year: u32, count: u32) -> u32
     requires { count < 12 }
     ensures value { result ≡ days_of_months year count }
     ensures size { result ≤ 335 }
@@ -71,5 +78,55 @@ pub(crate) fn day_of(year: u32, month: u32, day: u32) -> Option<u32>
         Some(years(year - 1970) + months(year, month - 1) + (day - 1))
     } else {
         None
+    }
+}
+
+/// How many years from 1970 on are over before a day by its number.
+fn years_before(day: u32) -> u32
+    requires { day < 50_000 }
+    ensures from { days_of_years result ≤ day }
+    ensures to { day < days_of_years (result + 1) }
+    ensures size { result < 200 }
+{
+    // No year has more than 366 days, and there are too few years here for two too few.
+    let count = day / 366;
+    if years(count + 1) <= day {
+        count + 1
+    } else {
+        count
+    }
+}
+
+/// How many months of a year are over before a day by its place in the year, from 0.
+fn months_before(year: u32, day: u32) -> u32
+    requires { day < year_length year }
+    ensures from { days_of_months year result ≤ day }
+    ensures to { day < days_of_months year (result + 1) }
+    ensures size { result < 12 }
+{
+    // No month has more than 31 days, and a year has too few months for two too few.
+    let count = day / 32;
+    if count < 11 && months(year, count + 1) <= day {
+        count + 1
+    } else {
+        count
+    }
+}
+
+/// The date of a day by its number.
+pub(crate) fn date_of(day: u32) -> Date
+    requires { day < 50_000 }
+    ensures date { IsDateAfter day result.year result.month result.day }
+    ensures exists { is_date result.year result.month result.day ≡ true }
+    ensures size { result.year < 2_200 }
+{
+    let past_years = years_before(day);
+    let year = 1970 + past_years;
+    let day_in_year = day - years(past_years);
+    let past_months = months_before(year, day_in_year);
+    Date {
+        year,
+        month: past_months + 1,
+        day: day_in_year - months(year, past_months) + 1,
     }
 }
