@@ -1,8 +1,7 @@
 -- The days of years and months: their sizes, and which date a day number has.
-use Rattle.std.proofs.Common.{◌≡◌, ◌<◌, ◌≤◌, ◌+◌, ◌-◌, ◌*◌, ◌/◌, ◌%◌, ◌⊎◌, inl, inr, ℕ, zero, suc, Bool, true, false, refl, arith, add-one}
-use Rattle.std.specs.Prelude.{if◌then◌else◌, ◌&&◌, ◌||◌, not, ◌==◌, nat_le, nat_lt}
+use Rattle.std.proofs.Common.{◌≡◌, ◌<◌, ◌≤◌, ◌+◌, ◌-◌, ◌*◌, ◌/◌, ◌⊎◌, inl, inr, ℕ, zero, suc, refl, arith, add-one}
 use Rattle.std.proofs.lemmas.Bool.Decides.{nat_tests}
-use Rattle.osm_text.specs.Times.{is_leap, is_date, year_length, month_length, days_of_years, days_of_months, day_number, DateValue, next_date, date_after}
+use Rattle.osm_text.specs.Times.{year_length, month_length, days_of_years, days_of_months}
 
 -- one year more
 year-step : (k : ℕ) →

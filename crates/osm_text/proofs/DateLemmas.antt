@@ -1,7 +1,7 @@
 -- Which date a day number has.
-use Rattle.std.proofs.Common.{◌≡◌, ◌<◌, ◌≤◌, ◌+◌, ◌-◌, ◌*◌, ◌⊎◌, inl, inr, ℕ, zero, suc, Bool, true, false, refl, arith, ap}
-use Rattle.std.specs.Prelude.{if◌then◌else◌, ◌&&◌, nat_le, nat_lt}
-use Rattle.std.proofs.lemmas.Bool.{lt-ltb, le-ltb}
+use Rattle.std.proofs.Common.{◌≡◌, ◌<◌, ◌≤◌, ◌+◌, ◌-◌, ◌⊎◌, inl, inr, ℕ, zero, suc, true, refl, arith}
+use Rattle.std.specs.Prelude.{◌&&◌, nat_le, nat_lt}
+use Rattle.std.proofs.lemmas.Bool.{and_parts, leb-true, ltb-true, lt-ltb, le-ltb}
 use Rattle.std.proofs.lemmas.Bool.Decides.{nat_tests}
 use Rattle.osm_text.specs.Times.{is_date, year_length, month_length, days_of_years, days_of_months, day_number, DateValue, next_date, date_after}
 use Rattle.osm_text.proofs.CalendarLemmas.{month_length-ge, days_of_months-before, days_of_months-later, days_of_months-more, days_of_months-year, days_of_years-later, days_of_years-more}
@@ -24,6 +24,29 @@ five year month day most a b c d e = grind (arith, nat_tests)
 pub exists-numbered : (year month day number : ℕ) → IsNumbered year month day number → is_date year month day ≡ true
 exists-numbered year month day number is =
     five year month day (month_length year month) is.from is.first is.last is.begun is.within
+
+-- five tests that passed
+five-parts : (year month day most : ℕ) →
+    (nat_le 1970 year && nat_lt 0 month && nat_le month 12 && nat_lt 0 day && nat_le day most) ≡ true →
+    (1970 ≤ year) × (0 < month) × (month ≤ 12) × (0 < day) × (day ≤ most)
+five-parts year month day most all =
+    let e = and_parts (nat_le 1970 year && nat_lt 0 month && nat_le month 12 && nat_lt 0 day) (nat_le day most) all in
+    let d = and_parts (nat_le 1970 year && nat_lt 0 month && nat_le month 12) (nat_lt 0 day) e.0 in
+    let c = and_parts (nat_le 1970 year && nat_lt 0 month) (nat_le month 12) d.0 in
+    let b = and_parts (nat_le 1970 year) (nat_lt 0 month) c.0 in (
+      leb-true 1970 year b.0,
+      ltb-true 0 month b.1,
+      leb-true month 12 c.1,
+      ltb-true 0 day d.1,
+      leb-true day most e.1,
+    )
+
+-- a date that exists has a number
+pub numbered-date : (year month day : ℕ) → is_date year month day ≡ true →
+    IsNumbered year month day (day_number year month day)
+numbered-date year month day exists =
+    let held = five-parts year month day (month_length year month) exists in
+    record { from = held.0; first = held.1; last = held.2; begun = held.3; within = held.4; value = refl }
 
 -- the days of a year before a date are fewer than the year's
 in-year : (year month day number : ℕ) → IsNumbered year month day number →
@@ -82,7 +105,7 @@ step-year year month day number is over last =
     }
 
 -- the next date has the next number
-next-numbered : (d : DateValue) (number : ℕ) → IsNumbered d.year d.month d.day number →
+pub next-numbered : (d : DateValue) (number : ℕ) → IsNumbered d.year d.month d.day number →
     IsNumbered (next_date d).year (next_date d).month (next_date d).day (suc number)
 next-numbered d number is =
     let in_month : (d.day < month_length d.year d.month) ⊎ (month_length d.year d.month ≤ d.day) = grind arith in

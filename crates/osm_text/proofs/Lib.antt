@@ -6,3 +6,4 @@ mod FractionLemmas
 mod KeptLemmas
 mod ReadBackLemmas
 mod ShortLemmas
+mod TimeLemmas

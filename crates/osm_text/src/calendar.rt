@@ -4,6 +4,7 @@ ghost use Rattle.osm_text.specs.Times.{days_of_months, days_of_years, existing_d
 ghost use Rattle.osm_text.specs.Times.{IsDateAfter, month_length, year_length};
 
 /// A date from 1970 on.
+#[derive(Clone, Copy)]
 pub(crate) struct Date {
     pub(crate) year: u32,
     pub(crate) month: u32,
@@ -117,8 +118,9 @@ fn months_before(year: u32, day: u32) -> u32
 pub(crate) fn date_of(day: u32) -> Date
     requires { day < 50_000 }
     ensures date { IsDateAfter day result.year result.month result.day }
-    ensures exists { is_date result.year result.month result.day ≡ true }
-    ensures size { result.year < 2_200 }
+    ensures year { result.year < 2_200 }
+    ensures month { result.month ≤ 12 }
+    ensures day { result.day ≤ 31 }
 {
     let past_years = years_before(day);
     let year = 1970 + past_years;

@@ -8,12 +8,14 @@ mod fraction;
 mod laws;
 mod nano;
 mod time;
+mod time_laws;
 mod whole;
 
 pub use cutting::first_part;
 pub use laws::{short_reads_back, whole_reads_back};
 pub use nano::{read_nano, write_nano};
-pub use time::{BadTime, read_time};
+pub use time::{BadTime, read_time, write_time};
+pub use time_laws::{dates_have_their_numbers, days_follow, time_reads_back};
 pub use whole::{BadNumber, read_whole, write_whole};
 
 #[cfg(test)]

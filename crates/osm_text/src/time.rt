@@ -1,13 +1,15 @@
 //! Times as texts, as `2010-01-01T00:00:00Z`, both ways: seconds since 1970-01-01T00:00:00Z.
-ghost use Rattle.std.specs.Prelude.{◌≡◌, ◌<◌, ◌≤◌, ◌+◌, ◌*◌, ◌^◌, true, length, IfSome};
-ghost use Rattle.std.specs.Prelude.{None, Some, if◌then◌else◌};
+ghost use Rattle.std.specs.Prelude.{◌≡◌, ◌<◌, ◌≤◌, ◌+◌, ◌*◌, true, length, IfSome};
+ghost use Rattle.std.specs.Prelude.{◌∷◌, ◌++◌, [], take, OnErr, OnOk};
 ghost use Rattle.std.specs.Result.{result_ok};
 ghost use Rattle.osm_text.specs.Times.{clock_at, clock_places, date_places};
-ghost use Rattle.osm_text.specs.Times.{day_at, existing_clock, fitting_time, time};
+ghost use Rattle.osm_text.specs.Times.{clock_after, date_text, day_at, existing_clock};
+ghost use Rattle.osm_text.specs.Times.{fitting_time, time, time_text, two_text};
 ghost use Rattle.osm_text.specs.Times.{are_two_digits, has_form, has_marks, number_at};
 ghost use Rattle.std.specs.List.{list_all};
 
-use crate::calendar::day_of;
+use crate::calendar::{Date, date_of, day_of};
+use osm_entity::{Bytes, NoMemory};
 
 /// A text that is no time, or a time that 32 bits of seconds since 1970 can't hold.
 #[derive(Clone, Copy, Debug, PartialEq, Eq)]
@@ -128,4 +130,60 @@ pub fn read_time(bytes: &[u8]) -> Result<u32, BadTime>
         (Some(day), Some(clock)) => seconds_of(day, clock),
         _ => Err(BadTime),
     }
+}
+
+/// A number below 100 in two digits.
+fn pair(n: u32) -> [u8; 2]
+    requires { n < 100 }
+    ensures { result ≡ two_text n }
+{
+    [b'0' + (n / 10) as u8, b'0' + (n % 10) as u8]
+}
+
+/// A date and the `T` after it.
+fn date_bytes(date: Date) -> [u8; 11]
+    requires year { date.year < 10_000 }
+    requires month { date.month < 100 }
+    requires day { date.day < 100 }
+    ensures { result ≡ date_text date.year date.month date.day ++ 84 ∷ [] }
+{
+    let [y1, y2] = pair(date.year / 100);
+    let [y3, y4] = pair(date.year % 100);
+    let [m1, m2] = pair(date.month);
+    let [d1, d2] = pair(date.day);
+    [y1, y2, y3, y4, b'-', m1, m2, b'-', d1, d2, b'T']
+}
+
+/// A time of the day and the `Z` after it.
+fn clock_bytes(seconds: u32) -> [u8; 9]
+    requires { seconds < 86400 }
+    ensures { result ≡ clock_after seconds ++ 90 ∷ [] }
+{
+    let [h1, h2] = pair(seconds / 3_600);
+    let [m1, m2] = pair(seconds / 60 % 60);
+    let [s1, s2] = pair(seconds % 60);
+    [h1, h2, b':', m1, m2, b':', s1, s2, b'Z']
+}
+
+/// Appends the two halves of the text one by one. At `Err` the first may stand at the end.
+fn write_halves(out: &mut Bytes, t: u32) -> Result<(), NoMemory>
+    ensures ok { OnOk result (out.new ≡ out.old ++ time_text t) }
+    ensures err { OnErr result (take (length out.old) out.new ≡ out.old) }
+{
+    out.append(&date_bytes(date_of(t / 86_400)))?;
+    out.append(&clock_bytes(t % 86_400))
+}
+
+/// Appends the time so many seconds after 1970-01-01T00:00:00Z, as `2010-01-01T00:00:00Z`.
+/// At `Err` nothing is appended.
+pub fn write_time(out: &mut Bytes, t: u32) -> Result<(), NoMemory>
+    ensures ok { OnOk result (out.new ≡ out.old ++ time_text t) }
+    ensures err { OnErr result (out.new ≡ out.old) }
+{
+    let length = out.len();
+    let written = write_halves(out, t);
+    if written.is_err() {
+        out.truncate(length);
+    }
+    written
 }

@@ -1,6 +1,6 @@
 use Rattle.std.proofs.Common.{◌≡◌, ◌≤◌, ◌<◌, ◌+◌, ◌-◌, ℕ, arith}
-use Rattle.osm_text.proofs.CalendarLemmas.{days_of_years-more}
-use Rattle.osm_text.proofs.DateLemmas.{IsNumbered, date_after-numbered, exists-numbered, numbered-one, numbered-parts}
+use Rattle.osm_text.proofs.CalendarLemmas.{days_of_months-more, days_of_years-more, month_length-le}
+use Rattle.osm_text.proofs.DateLemmas.{IsNumbered, date_after-numbered, numbered-one, numbered-parts}
 use Rattle.osm_text.specs.Times.{IsDateAfter, date_after, days_of_months, days_of_years}
 use Rattle.osm_text.proofs.calendar.date_of.Goals as goal
 
@@ -32,11 +32,8 @@ returns-clause-date c =
     c.months_before-past_months.ensures.from c.months_before-past_months.ensures.to
     c.months_before-past_months.ensures.size)
 
-pub returns-clause-exists : goal.returns-clause-exists
-returns-clause-exists c =
-    exists-numbered (1970 + c.years_before-past_years.result) (c.months_before-past_months.result + 1)
-    (c.args.day - c.years.result - c.months.result + 1) c.args.day
-    (numbered c.years_before-past_years.result c.months_before-past_months.result c.args.day c.years.result
-    c.months.result c.years.ensures.value c.months.ensures.value c.years_before-past_years.ensures.from
-    c.months_before-past_months.ensures.from c.months_before-past_months.ensures.to
-    c.months_before-past_months.ensures.size)
+pub returns-clause-day : goal.returns-clause-day
+returns-clause-day c =
+    let month = days_of_months-more (1970 + c.years_before-past_years.result) c.months_before-past_months.result in
+    let days = month_length-le (1970 + c.years_before-past_years.result) (c.months_before-past_months.result + 1) in
+    omega (arith, c.months.ensures.value, c.months_before-past_months.ensures.to)
