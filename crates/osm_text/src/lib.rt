@@ -1,4 +1,4 @@
-//! Numbers and times as texts, both ways: whole numbers, degrees in nanodegrees, and times.
+//! Numbers as texts, both ways: whole numbers, and degrees in nanodegrees.
 #![tactic(auto)]
 
 mod calendar;
@@ -20,3 +20,5 @@ pub use whole::{BadNumber, read_whole, write_whole};
 
 #[cfg(test)]
 mod tests;
+#[cfg(test)]
+mod time_tests;
