@@ -66,7 +66,10 @@ unfolding days_of_months
 days_of_months-later year k zero before = absurd (omega arith)
 days_of_months-later year k (suc n) before =
     let now_or_before : (k < n) ⊎ (k ≡ n) = grind arith in
-    elim now_or_before [ inl earlier ↦ omega (arith, days_of_months-later year k n earlier) | inr is ↦ rw is (omega arith) ]
+    elim now_or_before [
+      | inl earlier ↦ omega (arith, days_of_months-later year k n earlier)
+      | inr is ↦ rw is (omega arith)
+    ]
 
 -- each month has at least 28 days
 pub month_length-ge : (year month : ℕ) → 28 ≤ month_length year month

@@ -40,6 +40,7 @@ text-reads : (year month day hour minute second : ℕ) → year < 10000 → mont
     hour < 100 → minute < 100 → second < 100 →
     time (date_text year month day ++ 84 ∷ clock_text hour minute second ++ 90 ∷ []) ≡
     time_at (existing_day year month day) (existing_clock hour minute second)
+unfolding time
 text-reads year month day hour minute second a b c d e f =
     let form = form-of (48 + year / 100 / 10) (48 + year / 100 % 10) (48 + year % 100 / 10) (48 + year % 100 % 10)
     (48 + month / 10) (48 + month % 10) (48 + day / 10) (48 + day % 10) (48 + hour / 10) (48 + hour % 10)

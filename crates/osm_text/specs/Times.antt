@@ -1,6 +1,6 @@
 -- Times as texts, as 2010-01-01T00:00:00Z: the calendar, and seconds since 1970-01-01T00:00:00Z.
 -- Here days are counted year by year, month by month and day by day; the code divides.
-use Rattle.std.specs.Prelude.{◌≡◌, ℕ, zero, suc, ◌+◌, ◌-◌, ◌*◌, ◌/◌, ◌%◌, ◌^◌, List, [], ◌∷◌, ◌++◌, length, take, drop, Bool, not, ◌&&◌, ◌||◌, ◌==◌, nat_lt, nat_le, if◌then◌else◌, Option, Some, None, slice_index}
+use Rattle.std.specs.Prelude.{ℕ, zero, suc, ◌+◌, ◌-◌, ◌*◌, ◌/◌, ◌%◌, ◌^◌, List, [], ◌∷◌, ◌++◌, length, take, drop, Bool, not, ◌&&◌, ◌||◌, ◌==◌, nat_lt, nat_le, if◌then◌else◌, Option, Some, None, slice_index}
 use Rattle.std.specs.Char.{is_digit}
 use Rattle.std.specs.List.{list_all}
 use Rattle.std.specs.Str.Parse.{digits_value}
@@ -61,12 +61,6 @@ unfoldable pub date_after : ℕ → DateValue
 date_after zero = record { year = 1970; month = 1; day = 1 }
 date_after (suc days) = next_date (date_after days)
 
--- the date so many days after 1970-01-01 has this year, month and day
-pub record IsDateAfter (days year month day : ℕ) : Type 0 where
-  pub is_year : (date_after days).year ≡ year
-  pub is_month : (date_after days).month ≡ month
-  pub is_day : (date_after days).day ≡ day
-
 -- a time of a day exists
 abbrev pub is_clock : ℕ → ℕ → ℕ → Bool
 is_clock hour minute second = nat_lt hour 24 && nat_lt minute 60 && nat_lt second 60
@@ -126,7 +120,7 @@ time_at (Some day) (Some clock) = fitting_time (day * 86400 + clock)
 time_at day clock = None
 
 -- a time is a text of this form whose date and time of the day exist, in seconds since 1970-01-01T00:00:00Z
-abbrev pub time : List ℕ → Option ℕ
+unfoldable pub time : List ℕ → Option ℕ
 time bytes = if has_form bytes then time_at (day_at bytes) (clock_at bytes) else None
 
 -- a number below 100 in two digits

@@ -1,7 +1,7 @@
 //! The Gregorian calendar from 1970 on: dates that exist, and the days before them.
 ghost use Rattle.std.specs.Prelude.{true, ◌≡◌, ◌<◌, ◌≤◌, ◌-◌, ◌+◌, ◌*◌};
 ghost use Rattle.osm_text.specs.Times.{days_of_months, days_of_years, existing_day, is_date, is_leap};
-ghost use Rattle.osm_text.specs.Times.{IsDateAfter, month_length, year_length};
+ghost use Rattle.osm_text.specs.Times.{date_after, month_length, year_length};
 
 /// A date from 1970 on.
 #[derive(Clone, Copy)]
@@ -117,10 +117,10 @@ fn months_before(year: u32, day: u32) -> u32
 /// The date of a day by its number.
 pub(crate) fn date_of(day: u32) -> Date
     requires { day < 50_000 }
-    ensures date { IsDateAfter day result.year result.month result.day }
-    ensures year { result.year < 2_200 }
-    ensures month { result.month ≤ 12 }
-    ensures day { result.day ≤ 31 }
+    ensures year { result.year ≡ (date_after day).year }
+    ensures month { result.month ≡ (date_after day).month }
+    ensures day { result.day ≡ (date_after day).day }
+    ensures size { (result.year < 2200) × (result.month ≤ 12) × (result.day ≤ 31) }
 {
     let past_years = years_before(day);
     let year = 1970 + past_years;

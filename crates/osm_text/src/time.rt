@@ -1,12 +1,12 @@
 //! Times as texts, as `2010-01-01T00:00:00Z`, both ways: seconds since 1970-01-01T00:00:00Z.
 ghost use Rattle.std.specs.Prelude.{◌≡◌, ◌<◌, ◌≤◌, ◌+◌, ◌*◌, true, length, IfSome};
 ghost use Rattle.std.specs.Prelude.{◌∷◌, ◌++◌, [], take, OnErr, OnOk};
+ghost use Rattle.std.specs.List.{list_all};
 ghost use Rattle.std.specs.Result.{result_ok};
 ghost use Rattle.osm_text.specs.Times.{clock_at, clock_places, date_places};
 ghost use Rattle.osm_text.specs.Times.{clock_after, date_text, day_at, existing_clock};
 ghost use Rattle.osm_text.specs.Times.{fitting_time, time, time_text, two_text};
 ghost use Rattle.osm_text.specs.Times.{are_two_digits, has_form, has_marks, number_at};
-ghost use Rattle.std.specs.List.{list_all};
 
 use crate::calendar::{Date, date_of, day_of};
 use osm_entity::{Bytes, NoMemory};
@@ -120,6 +120,7 @@ fn clock_in(bytes: &[u8]) -> Option<u32>
 /// Reads a time, as `2010-01-01T00:00:00Z`, and gives seconds since 1970-01-01T00:00:00Z.
 /// `BadTime` exactly where the text is no such time: where it has another form, its date or its
 /// time of the day doesn't exist, or it lies before 1970 or after 2106-02-07T06:28:15Z.
+#[tactic(auto, unfolding(crate::specs::Times::time))]
 pub fn read_time(bytes: &[u8]) -> Result<u32, BadTime>
     ensures { result_ok result ≡ time bytes.now }
 {
