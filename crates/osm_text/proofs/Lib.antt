@@ -1,5 +1,9 @@
+mod CalendarLemmas
+mod DateLemmas
 mod DigitsLemmas
+mod FormLemmas
 mod FractionLemmas
 mod KeptLemmas
 mod ReadBackLemmas
 mod ShortLemmas
+mod TimeLemmas

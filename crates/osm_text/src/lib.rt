@@ -1,17 +1,24 @@
 //! Numbers as texts, both ways: whole numbers, and degrees in nanodegrees.
 #![tactic(auto)]
 
+mod calendar;
 mod cutting;
 mod digits;
 mod fraction;
 mod laws;
 mod nano;
+mod time;
+mod time_laws;
 mod whole;
 
 pub use cutting::first_part;
 pub use laws::{short_reads_back, whole_reads_back};
 pub use nano::{read_nano, write_nano};
+pub use time::{BadTime, read_time, write_time};
+pub use time_laws::{dates_have_their_numbers, days_follow, time_reads_back};
 pub use whole::{BadNumber, read_whole, write_whole};
 
 #[cfg(test)]
 mod tests;
+#[cfg(test)]
+mod time_tests;
