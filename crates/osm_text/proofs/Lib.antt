@@ -1,4 +1,5 @@
 mod DigitsLemmas
+mod EscapeLemmas
 mod FractionLemmas
 mod KeptLemmas
 mod ReadBackLemmas

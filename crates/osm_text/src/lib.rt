@@ -3,12 +3,14 @@
 
 mod cutting;
 mod digits;
+mod escaping;
 mod fraction;
 mod laws;
 mod nano;
 mod whole;
 
 pub use cutting::first_part;
+pub use escaping::escape;
 pub use laws::{short_reads_back, whole_reads_back};
 pub use nano::{read_nano, write_nano};
 pub use whole::{BadNumber, read_whole, write_whole};
