@@ -4,3 +4,4 @@ mod FractionLemmas
 mod KeptLemmas
 mod ReadBackLemmas
 mod ShortLemmas
+mod UnescapeLemmas

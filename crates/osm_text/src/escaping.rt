@@ -1,5 +1,5 @@
 //! Writes escaped texts, as `50%25%`: a reserved byte as its code point in hexadecimal digits
-//! between two `%`, as "Text file format" of the OPL manual says. Reserved bytes are ASCII.
+//! between two `%`, as the OPL file format manual says. Each reserved byte is ASCII.
 ghost use Rattle.std.specs.Prelude.{◌≡◌, ◌<◌, ◌++◌, false, IfNone, IfSome, OnOk, OnErr, length, take};
 ghost use Rattle.std.specs.Fmt.{digit_glyph};
 ghost use Rattle.std.specs.List.{position};

@@ -3,7 +3,8 @@ use Rattle.osm_text.proofs.EscapeLemmas.{hex_escape-one, hex_escape-two}
 use Rattle.osm_text.proofs.escaping.push_escape.Goals as goal
 
 pub returns-then-byte-lt16-clause-ok : goal.returns-then-byte-lt16-clause-ok
-returns-then-byte-lt16-clause-ok c = rw (hex_escape-one c.args.byte (omega arith), ← c.hex_digit.ensures) c.append.ensures.ok
+returns-then-byte-lt16-clause-ok c =
+    rw (hex_escape-one c.args.byte (omega arith), ← c.hex_digit.ensures) c.append.ensures.ok
 
 pub returns-clause-ok : goal.returns-clause-ok
 returns-clause-ok c =
