@@ -1,4 +1,5 @@
 mod DigitsLemmas
+mod EscapeLawLemmas
 mod EscapeLemmas
 mod FractionLemmas
 mod KeptLemmas

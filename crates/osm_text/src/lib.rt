@@ -3,6 +3,7 @@
 
 mod cutting;
 mod digits;
+mod escape_laws;
 mod escaping;
 mod fraction;
 mod laws;
@@ -11,6 +12,7 @@ mod unescaping;
 mod whole;
 
 pub use cutting::first_part;
+pub use escape_laws::escaped_reads_back;
 pub use escaping::escape;
 pub use laws::{short_reads_back, whole_reads_back};
 pub use nano::{read_nano, write_nano};
