@@ -20,4 +20,6 @@ pub use unescaping::{EscapeError, unescape};
 pub use whole::{BadNumber, read_whole, write_whole};
 
 #[cfg(test)]
+mod escape_tests;
+#[cfg(test)]
 mod tests;
