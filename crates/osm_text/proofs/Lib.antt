@@ -2,8 +2,11 @@ mod CalendarLemmas
 mod DateLemmas
 mod DigitsLemmas
 mod FormLemmas
+mod EscapeLawLemmas
+mod EscapeLemmas
 mod FractionLemmas
 mod KeptLemmas
 mod ReadBackLemmas
 mod ShortLemmas
 mod TimeLemmas
+mod UnescapeLemmas

@@ -1,0 +1,169 @@
+-- The reading of escaped texts: hexadecimal numbers, and the parts around each %.
+use Rattle.std.proofs.Common.{◌≡◌, ◌<◌, ◌≤◌, ◌+◌, ◌*◌, ◌^◌, ◌∷◌, ◌++◌, [], ℕ, true, false, List, length, take, drop, get_or, Option, None, Some, MatchOption, refl, arith, ap, sym, ◌∙◌, append_assoc, add-one}
+use Rattle.std.specs.Prelude.{if◌then◌else◌, ◌==◌}
+use Rattle.std.specs.Char.{is_digit, digit_value, encode_utf8, IsScalar, InScalarRange, OutOfScalarRange}
+use Rattle.std.specs.Fmt.{◌++?◌}
+use Rattle.std.specs.List.{list_all, slice_split}
+use Rattle.std.specs.Option.{SomeIff}
+use Rattle.std.specs.Str.{IsUtf8}
+use Rattle.std.specs.Str.Parse.{digits_value}
+use Rattle.std.proofs.Math.Nat.{pow-le-pow_right, pow-suc}
+use Rattle.std.proofs.lemmas.Bool.{and_from}
+use Rattle.std.proofs.lemmas.Bool.Decides.{nat_tests}
+use Rattle.std.proofs.lemmas.Int.Digits.{digits_value_more}
+use Rattle.std.proofs.lemmas.List.Folds.{list_all_more}
+use Rattle.std.proofs.lemmas.List.Splits.{length-slice_split, join_with_byte-slice_split}
+use Rattle.std.proofs.lemmas.Str.{IsUtf8-append, IsUtf8-take, IsUtf8-drop, IsCharBoundary-before_ascii, IsCharBoundary-after_ascii}
+use Rattle.std.proofs.lemmas.Grind.{common_steps}
+use Rattle.osm_text.specs.Escapes.{are_hex, escape_code, is_char, unescaped, unescaped_parts}
+use Rattle.osm_text.proofs.KeptLemmas.{kept_some, kept_none}
+
+-- up to eight hexadecimal digits write a number below 2^32
+hex-below : (n i : ℕ) → n < 16 ^ i → i ≤ 8 → n < 2 ^ 32
+hex-below n i small short =
+    let most : 16 ^ i ≤ 16 ^ 8 = pow-le-pow_right {n = 16} (omega arith) {i = i} {j = 8} (omega arith) in
+    omega arith
+
+-- the hexadecimal digits before a place, all of them digits, and their number
+pub record IsHexBefore (bytes : List ℕ) (i number : ℕ) : Type 0 where
+  pub read : number ≡ digits_value 16 (take i bytes)
+  pub digits : list_all (λ c. is_digit c 16) (take i bytes) ≡ true
+  pub small : number < 16 ^ i
+
+-- one digit more is added at the end of the number
+pub hex-more : (bytes : List ℕ) (i number value : ℕ) → i < length bytes →
+    Some value ≡ (if is_digit (get_or bytes i 0) 16 then Some (digit_value (get_or bytes i 0)) else None) →
+    IsHexBefore bytes i number → IsHexBefore bytes (i + 1) (number * 16 + value)
+hex-more bytes i number value within is before =
+    let kept = kept_some (is_digit (get_or bytes i 0) 16) (digit_value (get_or bytes i 0)) value is in
+    let sum = digits_value_more 16 bytes i within in
+    let digit : value < 16 = grind (arith, nat_tests, kept.0, kept.1) in
+    let power = pow-suc 16 i in
+    record {
+      read = omega (arith, kept.0);
+      digits = rw (list_all_more (λ c. is_digit c 16) bytes i 0 within) (and_from _ _ before.digits kept.1);
+      small = rw add-one (omega arith);
+    }
+
+-- a number of fewer than eight digits with one more fits 32 bits
+pub hex-fits : (bytes : List ℕ) (i number value : ℕ) → i < length bytes → i < 8 →
+    Some value ≡ (if is_digit (get_or bytes i 0) 16 then Some (digit_value (get_or bytes i 0)) else None) →
+    IsHexBefore bytes i number → number * 16 + value < 2 ^ 32
+hex-fits bytes i number value within short is before =
+    hex-below (number * 16 + value) (i + 1) (hex-more bytes i number value within is before).small (omega arith)
+
+-- a character exactly where the number is that of one
+pub char-from_number : (n : ℕ) (r : Option ℕ) → MatchOption r (OutOfScalarRange n) (λ _. InScalarRange n) →
+    SomeIff r (IsScalar n) n → r ≡ (if is_char n then Some n else None)
+char-from_number n None out _ = let fails : is_char n ≡ false = grind (arith, nat_tests, out) in rw fails
+char-from_number n (Some c) within is =
+    let passes : is_char n ≡ true = grind (arith, nat_tests, within) in
+    rw passes (ap Some is.1)
+
+-- the character of the digits, by the number that they write
+pub char-from_digits : (bytes : List ℕ) (n : ℕ) (r : Option ℕ) →
+    Some n ≡ (if are_hex bytes then Some (digits_value 16 bytes) else None) →
+    r ≡ (if is_char n then Some n else None) → r ≡ escape_code bytes
+char-from_digits bytes n r read is =
+    let kept = kept_some (are_hex bytes) (digits_value 16 bytes) n read in
+    rw kept.1 (rw kept.0 at is)
+
+-- what is no number between two % stands for no character
+pub no_char-from_digits : (bytes : List ℕ) →
+    None ≡ (if are_hex bytes then Some (digits_value 16 bytes) else None) → None ≡ escape_code bytes
+no_char-from_digits bytes read = rw (kept_none (are_hex bytes) (digits_value 16 bytes) read)
+
+-- no text follows
+pub then_none : (t : Option (List ℕ)) → t ++? None ≡ None
+then_none None = refl
+then_none (Some text) = refl
+
+-- two texts before a third
+pub texts-join : (a b : List ℕ) (t : Option (List ℕ)) → Some a ++? (Some b ++? t) ≡ Some (a ++ b) ++? t
+texts-join a b None = refl
+texts-join a b (Some text) = ap Some (sym (append_assoc a b text))
+
+-- the empty text before another
+pub nothing-before : (t : Option (List ℕ)) → Some [] ++? t ≡ t
+nothing-before None = refl
+nothing-before (Some text) = refl
+
+-- plain text, and what follows its %
+parts-plain : (plain : List ℕ) (parts : List (List ℕ)) → 0 < length parts →
+    unescaped_parts (plain ∷ parts) ≡ Some plain ++? unescaped_parts ([] ∷ parts)
+parts-plain plain [] some = absurd (omega arith)
+parts-plain plain (code ∷ parts) some = ap (λ t. Some plain ++? t) (sym (nothing-before _))
+
+-- a text is its plain front and what follows the first %
+pub unescaped-plain : (text plain after : List ℕ) →
+    slice_split (λ b. b == 37) text ≡ plain ∷ slice_split (λ b. b == 37) after →
+    unescaped text ≡ Some plain ++? unescaped (37 ∷ after)
+unescaped-plain text plain after is =
+    rw is
+    (parts-plain plain (slice_split (λ b. b == 37) after) (omega (arith, length-slice_split (λ b. b == 37) after)))
+
+-- a text without a % is itself
+pub unescaped-whole : (text : List ℕ) → slice_split (λ b. b == 37) text ≡ text ∷ [] → unescaped text ≡ Some text
+unescaped-whole text is = rw is
+
+-- a lone % is no escape
+pub unescaped-lone : (after : List ℕ) → slice_split (λ b. b == 37) after ≡ after ∷ [] → unescaped (37 ∷ after) ≡ None
+unescaped-lone after is = rw (is, then_none)
+
+-- between two % stands no number of a character
+pub unescaped-no_char : (after code rest : List ℕ) →
+    slice_split (λ b. b == 37) after ≡ code ∷ slice_split (λ b. b == 37) rest → None ≡ escape_code code →
+    unescaped (37 ∷ after) ≡ None
+unescaped-no_char after code rest is none = rw (is, ← none)
+
+-- between two % stands a number of a character
+pub unescaped-char : (out after code rest : List ℕ) (c : ℕ) →
+    slice_split (λ b. b == 37) after ≡ code ∷ slice_split (λ b. b == 37) rest → Some c ≡ escape_code code →
+    Some out ++? unescaped (37 ∷ after) ≡ Some (out ++ encode_utf8 c) ++? unescaped rest
+unescaped-char out after code rest c is char =
+    rw (is, ← char, nothing-before) (texts-join out (encode_utf8 c) (unescaped rest))
+
+-- the parts around a first % are the text
+split-joined : (text front back : List ℕ) (parts : List (List ℕ)) → slice_split (λ b. b == 37) back ≡ parts →
+    slice_split (λ b. b == 37) text ≡ front ∷ parts → text ≡ front ++ 37 ∷ back
+split-joined text front back [] rest is =
+    absurd (omega (arith, length-slice_split (λ b. b == 37) back, ap length rest))
+split-joined text front back (part ∷ parts) rest is =
+    let whole = rw is at (join_with_byte-slice_split 37 text) in
+    let more = rw rest at (join_with_byte-slice_split 37 back) in
+    sym whole ∙ ap (λ t. front ++ 37 ∷ t) more
+
+-- UTF-8 around an ASCII character is UTF-8
+utf8-around : (front back : List ℕ) → IsUtf8 (front ++ 37 ∷ back) → IsUtf8 front × IsUtf8 back
+utf8-around front back whole =
+    let here : get_or (front ++ 37 ∷ back) (length front) 0 ≡ 37 = grind (arith, common_steps) in
+    let within : length front < length (front ++ 37 ∷ back) = grind (arith, common_steps) in
+    let before : take (length front) (front ++ 37 ∷ back) ≡ front = grind (arith, common_steps) in
+    let after : drop (length front + 1) (front ++ 37 ∷ back) ≡ back = grind (arith, common_steps) in (
+      rw before at
+          (IsUtf8-take _ (length front) whole (IsCharBoundary-before_ascii _ (length front) within (omega arith))),
+      rw after at
+          (IsUtf8-drop _ (length front + 1) whole
+          (IsCharBoundary-after_ascii _ (length front) whole within (omega arith))),
+    )
+
+-- the parts of UTF-8 around a first % are UTF-8
+pub utf8-parts : (text front back : List ℕ) →
+    slice_split (λ b. b == 37) text ≡ front ∷ slice_split (λ b. b == 37) back → IsUtf8 text → IsUtf8 front × IsUtf8 back
+utf8-parts text front back is whole =
+    let joined = split-joined text front back (slice_split (λ b. b == 37) back) refl is in
+    utf8-around front back (rw joined at whole)
+
+-- what was read so far, and the next part of plain text and character
+pub unescaped-step : (bytes out rest plain after grown new more : List ℕ) →
+    unescaped bytes ≡ Some out ++? unescaped rest →
+    slice_split (λ b. b == 37) rest ≡ plain ∷ slice_split (λ b. b == 37) after → grown ≡ out ++ plain →
+    Some grown ++? unescaped (37 ∷ after) ≡ Some new ++? unescaped more →
+    unescaped bytes ≡ Some new ++? unescaped more
+unescaped-step bytes out rest plain after grown new more so_far split is step =
+    let next = texts-join out plain (unescaped (37 ∷ after)) in
+    so_far ∙ ap (λ t. Some out ++? t) (unescaped-plain rest plain after split) ∙ next ∙ rw is at step
+
+-- UTF-8 after UTF-8 is UTF-8
+pub utf8-grown : (out plain grown : List ℕ) → grown ≡ out ++ plain → IsUtf8 out → IsUtf8 plain → IsUtf8 grown
+utf8-grown out plain grown is before after = rw is (IsUtf8-append out plain before after)

@@ -1,0 +1,136 @@
+//! Reads escaped texts, as `50%25%`: one to eight hexadecimal digits of either case between two `%`
+//! stand for the character of that code point, as the OPL file format manual says.
+ghost use Rattle.std.specs.Prelude.{◌≡◌, ◌<◌, ◌++◌, ◌∷◌, ◌==◌, ℕ, None, Some, IfErr, IfOk, OnOk, IsErrOf, IsUtf8, if◌then◌else◌, length};
+ghost use Rattle.std.specs.Char.{digit_value, encode_utf8, is_digit};
+ghost use Rattle.std.specs.Fmt.{◌++?◌};
+ghost use Rattle.std.specs.Str.Parse.{digits_value};
+ghost use Rattle.osm_text.specs.Escapes.{are_hex, escape_code, unescaped};
+ghost use Rattle.osm_text.specs.declared.unescaping.EscapeError.TheVariants.{BadEscape, Memory};
+
+use crate::cutting::first_part;
+use osm_entity::{Bytes, NoMemory, Text};
+use std::alloc::Global;
+use thiserror::Error;
+
+/// Why an escaped text was not read.
+#[derive(Clone, Copy, Debug, PartialEq, Eq, Error)]
+pub enum EscapeError {
+    /// A `%` that begins no escape, or a number that is no character.
+    #[error("bad escape")]
+    BadEscape,
+    /// Memory was wanted, and there was none.
+    #[error("no memory")]
+    Memory,
+}
+
+impl From<NoMemory> for EscapeError {
+    ghost from_gives = { λ _ e. e ≡ Memory };
+
+    fn from(_: NoMemory) -> Self {
+        EscapeError::Memory
+    }
+}
+
+fn hex_value(byte: u8) -> Option<u32>
+    ensures { result ≡ (if is_digit byte 16 then Some (digit_value byte) else None) }
+{
+    char::from(byte).to_digit(16)
+}
+
+/// The number that one to eight hexadecimal digits write; `None` where there are none, more, or
+/// other bytes.
+fn hex_number(bytes: &[u8]) -> Option<u32>
+    ensures { result ≡ (
+        if are_hex bytes.now then Some (digits_value 16 bytes.now) else None) }
+{
+    if bytes.is_empty() || bytes.len() > 8 {
+        return None;
+    }
+    let mut number = 0;
+    for byte in bytes {
+        match hex_value(*byte) {
+            Some(value) => number = number * 16 + value,
+            None => return None,
+        }
+    }
+    Some(number)
+}
+
+/// The character of a code point in hexadecimal digits; `None` where there is none.
+fn char_of(bytes: &[u8]) -> Option<char>
+    ensures { result ≡ escape_code bytes.now }
+{
+    match hex_number(bytes) {
+        Some(number) => char::from_u32(number),
+        None => None,
+    }
+}
+
+/// Appends the character's UTF-8.
+fn push_char(out: &mut Bytes, c: char) -> Result<(), NoMemory>
+    ensures ok { OnOk result (out.new ≡ out.old ++ encode_utf8 c) }
+    ensures utf8 { OnOk result (IsUtf8 out.old → IsUtf8 out.new) }
+{
+    let mut buffer = [0; 4];
+    out.append(c.encode_utf8(&mut buffer).as_bytes())
+}
+
+/// Appends the character of an escape, where `after` stands behind its first `%`, and gives the
+/// bytes behind its second. `BadEscape` where there is no escape.
+fn push_escaped<'a>(out: &mut Bytes, after: &'a [u8]) -> Result<&'a [u8], EscapeError>
+    requires { IsUtf8 after.now }
+    ensures value { IfOk result (λ rest.
+        Some out.old ++? unescaped (37 ∷ after.now) ≡ Some out.new ++? unescaped rest.now) }
+    ensures utf8 { IfOk result (λ rest. (IsUtf8 out.old → IsUtf8 out.new) × IsUtf8 rest.now) }
+    ensures shorter { IfOk result (λ rest. length rest.now < length after.now) }
+    ensures refused { IsErrOf result EscapeError.BadEscape → unescaped (37 ∷ after.now) ≡ None }
+{
+    let Some((code, rest)) = first_part(after, b'%') else {
+        return Err(EscapeError::BadEscape);
+    };
+    let Some(c) = char_of(code) else {
+        return Err(EscapeError::BadEscape);
+    };
+    push_char(out, c)?;
+    Ok(rest)
+}
+
+/// The bytes of the text that was escaped.
+fn unescaped_bytes(alloc: Global, bytes: &[u8]) -> Result<Bytes, EscapeError>
+    requires { IsUtf8 bytes.now }
+    ensures value { IfOk result (λ text. unescaped bytes.now ≡ Some text) }
+    ensures utf8 { IfOk result (λ text. IsUtf8 text) }
+    ensures refused { IsErrOf result EscapeError.BadEscape → unescaped bytes.now ≡ None }
+{
+    let mut out = Bytes::new(alloc);
+    let mut rest = bytes;
+    while let Some((plain, after)) = first_part(rest, b'%') {
+        out.append(plain)?;
+        rest = push_escaped(&mut out, after)?;
+    }
+    out.append(rest)?;
+    Ok(out)
+}
+
+fn text_of(alloc: Global, bytes: &[u8]) -> Result<Text, EscapeError>
+    requires { IsUtf8 bytes.now }
+    ensures value { IfOk result (λ text. text ≡ bytes.now) }
+    ensures refused { IfErr result (λ error. error ≡ EscapeError.Memory) }
+{
+    // These bytes are UTF-8, so nothing but memory can be wanted.
+    Text::from_bytes(alloc, bytes).map_err(|_| EscapeError::Memory)
+}
+
+/// The text that was escaped. `BadEscape` exactly where a `%` begins no escape or its number is no
+/// character, else only `Memory`.
+pub fn unescape(alloc: Global, bytes: &[u8]) -> Result<Text, EscapeError>
+    requires { IsUtf8 bytes.now }
+    ensures value { IfOk result (λ text. unescaped bytes.now ≡ Some text) }
+    ensures refused { IsErrOf result EscapeError.BadEscape → unescaped bytes.now ≡ None }
+{
+    if first_part(bytes, b'%').is_none() {
+        return text_of(alloc, bytes);
+    }
+    let text = unescaped_bytes(alloc, bytes)?;
+    text_of(alloc, text.as_slice())
+}
