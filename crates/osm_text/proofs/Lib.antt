@@ -1,3 +1,4 @@
+mod DegreesLemmas
 mod DigitsLemmas
 mod FractionLemmas
 mod KeptLemmas

@@ -1,1 +1,2 @@
+pub mod Nano
 pub mod Numbers

@@ -2,6 +2,7 @@
 #![tactic(auto)]
 
 mod cutting;
+mod degrees;
 mod digits;
 mod fraction;
 mod laws;
@@ -9,9 +10,12 @@ mod nano;
 mod whole;
 
 pub use cutting::first_part;
+pub use degrees::read_degrees;
 pub use laws::{short_reads_back, whole_reads_back};
 pub use nano::{read_nano, write_nano};
 pub use whole::{BadNumber, read_whole, write_whole};
 
+#[cfg(test)]
+mod degrees_tests;
 #[cfg(test)]
 mod tests;
