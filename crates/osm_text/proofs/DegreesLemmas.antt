@@ -75,7 +75,7 @@ pub place-within : (test : ℕ → Bool) (bytes : List ℕ) → position_or_len 
 place-within test bytes = prefix_len-le-length (λ b. not (test b)) bytes
 
 -- digits read on after those before them
-digits_value_after-append : (n : ℕ) (before after : List ℕ) →
+pub digits_value_after-append : (n : ℕ) (before after : List ℕ) →
     digits_value_after 10 n (before ++ after) ≡ digits_value_after 10 (digits_value_after 10 n before) after
 digits_value_after-append n [] after = refl
 digits_value_after-append n (c ∷ cs) after = digits_value_after-append (n * 10 + digit_value c) cs after

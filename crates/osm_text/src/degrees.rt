@@ -8,6 +8,7 @@ ghost use Rattle.osm_text.specs.Numbers.{are_digits, has_minus, signed};
 ghost use Rattle.osm_text.specs.Nano.{is_exponent, is_letter, is_point, limited, moved, nano, nano_moved, nano_size, places_left, places_right, without_sign};
 
 use crate::digits::read_digits;
+use crate::nano::read_nano;
 use crate::whole::BadNumber;
 
 /// The largest size, in nanodegrees: 10^9 degrees.
@@ -230,10 +231,7 @@ fn with_sign(minus: bool, size: u64) -> i64
     if minus { -(size as i64) } else { size as i64 }
 }
 
-/// Reads degrees, as `-0.1277` or `-1.277E-1`, and gives nanodegrees, cut toward 0: an optional
-/// sign, up to 38 digits around an optional point, and an optional exponent of up to four digits.
-/// `BadNumber` exactly where the text is no such number or its size is above 10^18.
-pub fn read_degrees(bytes: &[u8]) -> Result<i64, BadNumber>
+fn read_in_full(bytes: &[u8]) -> Result<i64, BadNumber>
     ensures { result_ok result ≡ nano bytes.now }
 {
     let (minus, unsigned) = split_sign(bytes);
@@ -241,4 +239,18 @@ pub fn read_degrees(bytes: &[u8]) -> Result<i64, BadNumber>
         Some(size) => Ok(with_sign(minus, size)),
         None => Err(BadNumber),
     }
+}
+
+/// Reads degrees, as `-0.1277` or `-1.277E-1`, and gives nanodegrees, cut toward 0: an optional
+/// sign, up to 38 digits around an optional point, and an optional exponent of up to four digits.
+/// `BadNumber` exactly where the text is no such number or its size is above 10^18.
+pub fn read_degrees(bytes: &[u8]) -> Result<i64, BadNumber>
+    ensures { result_ok result ≡ nano bytes.now }
+{
+    // Nearly all texts are short numbers, which need no division.
+    let short = read_nano(bytes);
+    if short.is_ok() {
+        return short;
+    }
+    read_in_full(bytes)
 }
