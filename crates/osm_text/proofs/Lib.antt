@@ -1,11 +1,13 @@
 mod CalendarLemmas
 mod DateLemmas
+mod DegreesLemmas
 mod DigitsLemmas
-mod FormLemmas
 mod EscapeLawLemmas
 mod EscapeLemmas
+mod FormLemmas
 mod FractionLemmas
 mod KeptLemmas
+mod NanoLemmas
 mod ReadBackLemmas
 mod ShortLemmas
 mod TimeLemmas

@@ -1,3 +1,4 @@
 pub mod Escapes
+pub mod Nano
 pub mod Numbers
 pub mod Times
