@@ -16,7 +16,7 @@ use Rattle.std.proofs.lemmas.List.Splits.{length-slice_split, join_with_byte-sli
 use Rattle.std.proofs.lemmas.Str.{IsUtf8-append, IsUtf8-take, IsUtf8-drop, IsCharBoundary-before_ascii, IsCharBoundary-after_ascii}
 use Rattle.std.proofs.lemmas.Grind.{common_steps}
 use Rattle.osm_text.specs.Escapes.{are_hex, escape_code, is_char, unescaped, unescaped_parts}
-use Rattle.osm_text.proofs.KeptLemmas.{kept_some, kept_none}
+use Rattle.osm_text.proofs.KeptLemmas.{kept_some}
 
 -- up to eight hexadecimal digits write a number below 2^32
 hex-below : (n i : ℕ) → n < 16 ^ i → i ≤ 8 → n < 2 ^ 32
@@ -68,16 +68,6 @@ char-from_digits bytes n r read is =
     let kept = kept_some (are_hex bytes) (digits_value 16 bytes) n read in
     rw kept.1 (rw kept.0 at is)
 
--- what is no number between two % stands for no character
-pub no_char-from_digits : (bytes : List ℕ) →
-    None ≡ (if are_hex bytes then Some (digits_value 16 bytes) else None) → None ≡ escape_code bytes
-no_char-from_digits bytes read = rw (kept_none (are_hex bytes) (digits_value 16 bytes) read)
-
--- no text follows
-pub then_none : (t : Option (List ℕ)) → t ++? None ≡ None
-then_none None = refl
-then_none (Some text) = refl
-
 -- two texts before a third
 pub texts-join : (a b : List ℕ) (t : Option (List ℕ)) → Some a ++? (Some b ++? t) ≡ Some (a ++ b) ++? t
 texts-join a b None = refl
@@ -101,20 +91,6 @@ pub unescaped-plain : (text plain after : List ℕ) →
 unescaped-plain text plain after is =
     rw is
     (parts-plain plain (slice_split (λ b. b == 37) after) (omega (arith, length-slice_split (λ b. b == 37) after)))
-
--- a text without a % is itself
-pub unescaped-whole : (text : List ℕ) → slice_split (λ b. b == 37) text ≡ text ∷ [] → unescaped text ≡ Some text
-unescaped-whole text is = rw is
-
--- a lone % is no escape
-pub unescaped-lone : (after : List ℕ) → slice_split (λ b. b == 37) after ≡ after ∷ [] → unescaped (37 ∷ after) ≡ None
-unescaped-lone after is = rw (is, then_none)
-
--- between two % stands no number of a character
-pub unescaped-no_char : (after code rest : List ℕ) →
-    slice_split (λ b. b == 37) after ≡ code ∷ slice_split (λ b. b == 37) rest → None ≡ escape_code code →
-    unescaped (37 ∷ after) ≡ None
-unescaped-no_char after code rest is none = rw (is, ← none)
 
 -- between two % stands a number of a character
 pub unescaped-char : (out after code rest : List ℕ) (c : ℕ) →

@@ -1,6 +1,6 @@
 //! Reads escaped texts, as `50%25%`: one to eight hexadecimal digits of either case between two `%`
 //! stand for the character of that code point, as the OPL file format manual says.
-ghost use Rattle.std.specs.Prelude.{◌≡◌, ◌<◌, ◌++◌, ◌∷◌, ◌==◌, ℕ, None, Some, IfErr, IfOk, OnOk, IsErrOf, IsUtf8, if◌then◌else◌, length};
+ghost use Rattle.std.specs.Prelude.{◌≡◌, ◌<◌, ◌≤◌, ◌++◌, ◌∷◌, ◌==◌, ℕ, None, Some, IfErr, IfOk, OnOk, IsErrOf, IsUtf8, if◌then◌else◌, length};
 ghost use Rattle.std.specs.Char.{digit_value, encode_utf8, is_digit};
 ghost use Rattle.std.specs.Fmt.{◌++?◌};
 ghost use Rattle.std.specs.Str.Parse.{digits_value};
@@ -37,13 +37,14 @@ fn hex_value(byte: u8) -> Option<u32>
     char::from(byte).to_digit(16)
 }
 
-/// The number that one to eight hexadecimal digits write; `None` where there are none, more, or
-/// other bytes.
+/// The number that up to eight hexadecimal digits write; `None` where there are none, or other
+/// bytes.
 fn hex_number(bytes: &[u8]) -> Option<u32>
+    requires { length bytes.now ≤ 8 }
     ensures { result ≡ (
         if are_hex bytes.now then Some (digits_value 16 bytes.now) else None) }
 {
-    if bytes.is_empty() || bytes.len() > 8 {
+    if bytes.is_empty() {
         return None;
     }
     let mut number = 0;
@@ -60,6 +61,9 @@ fn hex_number(bytes: &[u8]) -> Option<u32>
 fn char_of(bytes: &[u8]) -> Option<char>
     ensures { result ≡ escape_code bytes.now }
 {
+    if bytes.len() > 8 {
+        return None;
+    }
     match hex_number(bytes) {
         Some(number) => char::from_u32(number),
         None => None,
