@@ -1,6 +1,6 @@
 //! Reads escaped texts, as `50%25%`: one to eight hexadecimal digits of either case between two `%`
 //! stand for the character of that code point, as the OPL file format manual says.
-ghost use Rattle.std.specs.Prelude.{◌≡◌, ◌<◌, ◌≤◌, ◌++◌, ◌∷◌, ◌==◌, ℕ, None, Some, IfErr, IfOk, OnOk, IsErrOf, IsUtf8, if◌then◌else◌, length};
+ghost use Rattle.std.specs.Prelude.{◌≡◌, ◌<◌, ◌≤◌, ◌++◌, ◌∷◌, ◌==◌, ℕ, None, Some, IfErr, IfOk, OnErr, OnOk, IsErrOf, IsUtf8, if◌then◌else◌, length};
 ghost use Rattle.std.specs.Char.{digit_value, encode_utf8, is_digit};
 ghost use Rattle.std.specs.Fmt.{◌++?◌};
 ghost use Rattle.std.specs.Str.Parse.{digits_value};
@@ -70,9 +70,10 @@ fn char_of(bytes: &[u8]) -> Option<char>
     }
 }
 
-/// Appends the character's UTF-8.
+/// Appends the character's UTF-8. At `Err` nothing is appended.
 fn push_char(out: &mut Bytes, c: char) -> Result<(), NoMemory>
     ensures ok { OnOk result (out.new ≡ out.old ++ encode_utf8 c) }
+    ensures err { OnErr result (out.new ≡ out.old) }
     ensures utf8 { OnOk result (IsUtf8 out.old → IsUtf8 out.new) }
 {
     let mut buffer = [0; 4];
