@@ -53,7 +53,8 @@ at_ok (Ok x) is p = p
 at_ok (Err e) is p = absurd (let no : true ≡ false = is in cc)
 
 -- a writer gives nothing
-pub gives_nothing : (files : Option Files) (name : List ℕ) (unput unkept : Bool) → GivesFile files (Took name unput unkept)
+pub gives_nothing : (files : Option Files) (name : List ℕ) (unput unkept : Bool) →
+    GivesFile files (Took name unput unkept)
 gives_nothing None name unput unkept = tt
 gives_nothing (Some files) name unput unkept = tt
 

@@ -7,7 +7,7 @@ use Rattle.std.proofs.lemmas.List.{take-append-drop, take-append-le, length-appe
 use Rattle.std.proofs.lemmas.Grind.{flat_map-append}
 use Rattle.std.proofs.lemmas.List.{flat_map_more}
 use Rattle.std.proofs.Math.Seq.{take-suc, take-append_seam, take-append-add}
-use Rattle.osm_cli.specs.Pulling.{TookFront}
+use Rattle.osm_opl.specs.Putting.{TookFront}
 
 -- bytes after bytes
 pub append-append : (o : Option (List ℕ)) (a b : List ℕ) → append_known (append_known o a) b ≡ append_known o (a ++ b)

@@ -1,18 +1,21 @@
 -- Lemmas on a source that was read.
-use Rattle.std.proofs.Common.{◌≡◌, ℕ, ◌+◌, ◌^◌, ◌<◌, ◌≤◌, List, [], ◌∷◌, ◌++◌, length, take, Bool, true, false, refl, sym, ap, ◌∙◌, arith, nat_lt}
+use Rattle.std.proofs.Common.{◌≡◌, ◌≢◌, ℕ, ◌+◌, ◌<◌, ◌≤◌, List, [], ◌∷◌, length, take, Bool, true, false, refl, sym, ap, subst, ◌∙◌, arith}
 use Rattle.std.specs.Prelude.{Option, ◌==◌}
 use Rattle.std.specs.List.{slice_split}
-use Rattle.std.proofs.lemmas.Bool.{le-ltb, lt-ltb}
+use Rattle.osm_entity.specs.Items.{ItemValue}
 use Rattle.osm_entity.specs.declared.kind.Flow.{Flow}
 use Rattle.osm_entity.specs.declared.kind.Flow.TheVariants.{Entities}
-use Rattle.osm_entity.specs.declared.verdict.Verdict.{Verdict}
 use Rattle.osm_opl_line.specs.Line.{LineValue, Skipped, Good, Bad, opl_line}
 use Rattle.osm_opl_line.specs.Reading.{Ending, Whole, Cut, BadLine, Reading, before, lines_of, read_lines, opl_reading}
+use Rattle.osm_opl.specs.Pulling.{FaultsOfPull}
+use Rattle.osm_opl.specs.Reader.{ReaderValue, is_ended}
+use Rattle.osm_opl.specs.Standing.{FitsFeed, Stands, reader_reading, reader_verdict}
+use Rattle.osm_opl.specs.declared.feed.Feed.{Feed}
+use Rattle.osm_opl.specs.declared.feed.Feed.TheVariants.{Open, Ended, Failed, TooLong}
+use Rattle.osm_cli.specs.Copying.{reading_of}
 use Rattle.osm_cli.specs.Course.{source_limit}
-use Rattle.osm_cli.specs.Pulling.{Pulled, PullsEnd, is_ended}
-use Rattle.osm_cli.specs.Reading.{SourceIsRead, verdict_by, verdict_of}
-use Rattle.osm_cli.specs.declared.gathering.PullEnd.{PullEnd}
-use Rattle.osm_cli.specs.declared.gathering.PullEnd.TheVariants.{Ended, Failed, TooLong}
+use Rattle.osm_cli.specs.Outcome.{CountsBy}
+use Rattle.osm_cli.specs.Reading.{IsPulled, IsReadOut, ItemsRead, SourceIsRead, verdict_of}
 
 -- one more line doesn't cut a reading off
 not_cut_before : (number : ℕ) (value : LineValue) (reading : Reading) → (reading.ending ≡ Cut → ⊥) →
@@ -34,72 +37,97 @@ pub not_cut : (flow : Flow) (bytes : List ℕ) → (opl_reading flow bytes true)
 unfolding opl_reading
 not_cut flow bytes = not_cut_lines flow 1 (lines_of true (slice_split (λ b. b == 10) bytes))
 
--- the verdict of a source that ended
-verdict_ended : (ending : Ending) (count : ℕ) → (ending ≡ Cut → ⊥) → verdict_by ending Ended ≡ verdict_of ending count
-verdict_ended Whole count not_cut = refl
-verdict_ended Cut count not_cut = absurd (not_cut refl)
-verdict_ended (BadLine cause line) count not_cut = refl
+-- a reader's verdict by its reading is that of a copy's reader
+verdict_same : (count : ℕ) (ending : Ending) → reader_verdict source_limit count ending ≡ verdict_of ending count
+verdict_same count Whole = refl
+verdict_same count Cut = refl
+verdict_same count (BadLine cause line) = refl
 
--- the verdict of a source that failed
-verdict_failed : (ending : Ending) (count : ℕ) → nat_lt source_limit count ≡ false →
-    verdict_by ending Failed ≡ verdict_of ending count
-verdict_failed Whole count within = refl
-verdict_failed Cut count within = rw within refl
-verdict_failed (BadLine cause line) count within = refl
+-- whether a pull failed
+abbrev has_failed : Feed → Bool
+has_failed Open = false
+has_failed Ended = false
+has_failed Failed = true
+has_failed TooLong = false
 
--- the verdict of a source that gave too much
-verdict_too_long : (ending : Ending) (count : ℕ) → nat_lt source_limit count ≡ true →
-    verdict_by ending TooLong ≡ verdict_of ending count
-verdict_too_long Whole count past = refl
-verdict_too_long Cut count past = rw past refl
-verdict_too_long (BadLine cause line) count past = refl
+-- a count of faults rises where a pull failed, and else stays
+pulls_counted : (feed : Feed) (before now : ℕ) → FaultsOfPull feed before now → CountsBy (has_failed feed) before now
+pulls_counted Open before now same = same
+pulls_counted Ended before now same = same
+pulls_counted Failed before now rises = rises
+pulls_counted TooLong before now same = same
 
--- a source that was pulled to such an end, and whose bytes were read
-pub is_read : {S : Type 0} (rest : S → Option (List ℕ)) (given faults : S →
-    ℕ) (old now : S) (count : ℕ) (bytes held : List ℕ) (reading : Reading) (verdict : Verdict) (end : PullEnd) →
-    Pulled rest given old now count bytes → PullsEnd rest faults old now count end → held ≡ take source_limit bytes →
-    reading ≡ opl_reading Entities held (is_ended end) → verdict ≡ verdict_by reading.ending end →
-    SourceIsRead rest given faults old now count (is_ended end) verdict reading
-is_read rest given faults old now count bytes held reading verdict Ended pulled ends is_held is_reading is_verdict =
-    let whole : reading.ending ≡ Cut → ⊥ = λ cut. not_cut Entities held (ap (λ (r : Reading). r.ending)
-    (sym is_reading) ∙ cut) in
+-- a source that ended didn't fail
+ended_whole : (feed : Feed) → is_ended feed ≡ true → has_failed feed ≡ false
+ended_whole Open ended = refl
+ended_whole Ended ended = refl
+ended_whole Failed ended = cc
+ended_whole TooLong ended = refl
+
+-- a source that ended is said to have ended
+ended_is : (feed : Feed) → is_ended feed ≡ true → feed ≡ Ended
+ended_is Open ended = cc
+ended_is Ended ended = refl
+ended_is Failed ended = cc
+ended_is TooLong ended = cc
+
+-- a source that ended gave no more than the limit
+ended_within : (feed : Feed) (limit count : ℕ) → is_ended feed ≡ true → FitsFeed feed limit count → count ≤ limit
+ended_within Open limit count ended fits = cc
+ended_within Ended limit count ended fits = fits
+ended_within Failed limit count ended fits = cc
+ended_within TooLong limit count ended fits = cc
+
+-- a reading that was cut off within the limit was cut off by a pull that failed
+cut_failed : (feed : Feed) (limit count : ℕ) → FitsFeed feed limit count → feed ≢ Open →
+    (is_ended feed ≡ true → ⊥) → count ≤ limit → has_failed feed ≡ true
+cut_failed Open limit count fits closed unended within = absurd (closed refl)
+cut_failed Ended limit count fits closed unended within = absurd (unended refl)
+cut_failed Failed limit count fits closed unended within = refl
+cut_failed TooLong limit count fits closed unended within = absurd (omega (arith, fits))
+
+-- the reading of a reader with this flow and limit is that of a copy's reader
+reading_same : (reader : ReaderValue) (bytes : List ℕ) (came : Bool) → reader.flow ≡ Entities →
+    reader.limit ≡ source_limit → reader_reading reader bytes came ≡ reading_of bytes came
+reading_same reader bytes came flow limit = rw (flow, limit) refl
+
+-- a file whose end came isn't cut off
+cut_unended : (bytes : List ℕ) (came : Bool) → (reading_of bytes came).ending ≡ Cut → came ≡ true → ⊥
+cut_unended bytes came cut ended =
+    not_cut Entities (take source_limit bytes) (subst (λ c. (reading_of bytes c).ending ≡ Cut) ended cut)
+
+-- a reader that was pulled to a verdict has read its source
+pub is_read : {S : Type 0} (rest : S → Option (List ℕ)) (given faults : S → ℕ) (before now : S) (count : ℕ)
+    (reader : ReaderValue) (items : List ItemValue) → IsReadOut rest given faults before now count reader items →
+    ItemsRead rest given faults before now count (is_ended reader.feed) reader.verdict items
+is_read rest given faults before now count reader items out =
+    let p = out.pulled in
+    let over = p.stands.over out.over in
+    let same = reading_same reader p.bytes (is_ended reader.feed) p.flow p.limit in
+    let size : length p.bytes ≡ count = sym p.pulled.counted in
+    let reading : Reading = reading_of p.bytes (is_ended reader.feed) in
     record {
-      bytes = bytes;
-      unpulled = false;
-      pulled = pulled;
-      ended = λ _. ends.1;
-      pulls = ends.2;
-      whole = λ _. refl;
-      within = λ _. ends.0;
-      cut = λ cut within. absurd (whole cut);
-      is_reading = is_reading ∙ ap (λ b. opl_reading Entities b true) is_held;
-      verdict_is = is_verdict ∙ verdict_ended reading.ending count whole;
-    }
-is_read rest given faults old now count bytes held reading verdict Failed pulled ends is_held is_reading is_verdict =
-    record {
-      bytes = bytes;
-      unpulled = true;
-      pulled = pulled;
-      ended = λ clean. cc;
-      pulls = ends.1;
-      whole = λ clean. cc;
-      within = λ clean. cc;
-      cut = λ cut within. refl;
-      is_reading = is_reading ∙ ap (λ b. opl_reading Entities b false) is_held;
-      verdict_is = is_verdict ∙ verdict_failed reading.ending count (le-ltb source_limit count ends.0);
-    }
-is_read rest given faults old now count bytes held reading verdict TooLong pulled ends is_held is_reading is_verdict =
-    record {
-      bytes = bytes;
-      unpulled = false;
-      pulled = pulled;
-      ended = λ clean. cc;
-      pulls = ends.1;
-      whole = λ clean. refl;
-      within = λ clean. cc;
-      cut = λ cut within. absurd (omega (arith, ends.0));
-      is_reading = is_reading ∙ ap (λ b. opl_reading Entities b false) is_held;
-      verdict_is = is_verdict ∙ verdict_too_long reading.ending count (lt-ltb source_limit count ends.0);
+      reading = reading;
+      read = record {
+        bytes = p.bytes;
+        unpulled = has_failed reader.feed;
+        pulled = p.pulled;
+        ended = λ ended. p.ended (ended_is reader.feed ended);
+        pulls = pulls_counted reader.feed (faults before) (faults now) p.pulls;
+        whole = λ ended. ended_whole reader.feed ended;
+        within = λ ended. rw (size, p.limit) at
+            (ended_within reader.feed reader.limit (length p.bytes) ended p.stands.fits);
+        cut = λ cut within. cut_failed reader.feed source_limit count (rw (size, p.limit) at p.stands.fits)
+            (over.stopped (ap (λ (r : Reading). r.ending) same ∙ cut))
+            (cut_unended p.bytes (is_ended reader.feed) cut) within;
+        is_reading = refl;
+        verdict_is =
+            over.verdict
+            ∙ ap (λ (r : Reading). reader_verdict reader.limit (length p.bytes) r.ending) same
+            ∙ ap (λ limit. reader_verdict limit (length p.bytes) reading.ending) p.limit
+            ∙ ap (λ n. reader_verdict source_limit n reading.ending) size ∙ verdict_same count reading.ending;
+      };
+      all = ap (λ (r : Reading). r.items) (sym same) ∙ over.all;
     }
 
 -- one more line doesn't make a reading whole

@@ -3,7 +3,6 @@ pub mod Codes
 pub mod Copying
 pub mod Course
 pub mod Faults
-pub mod Gathered
 pub mod Outcome
 pub mod Plan
 pub mod Pulling

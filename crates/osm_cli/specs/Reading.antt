@@ -1,31 +1,23 @@
 -- A source that was pulled and read, as the code answers it.
 -- Here all that the source gave is one list; the code pulls piece by piece and reads line by line.
-use Rattle.std.specs.Prelude.{ℕ, ◌≡◌, ◌≤◌, List, Bool, true, false, nat_lt, if◌then◌else◌, Option}
+use Rattle.std.specs.Prelude.{ℕ, ◌≡◌, ◌≢◌, ◌≤◌, List, Bool, true, false, nat_lt, if◌then◌else◌, Option}
 use Rattle.std.specs.Io.KnownBytes.{IsAtEnd}
+use Rattle.osm_entity.specs.Items.{ItemValue}
+use Rattle.osm_entity.specs.declared.kind.Flow.TheVariants.{Entities}
 use Rattle.osm_entity.specs.declared.verdict.Spot.TheVariants.{Line}
 use Rattle.osm_entity.specs.declared.verdict.Verdict.{Verdict}
-use Rattle.osm_entity.specs.declared.verdict.Verdict.TheVariants.{Clean, Input, TooLong, Read}
+use Rattle.osm_entity.specs.declared.verdict.Verdict.TheVariants.{Running, Clean, Input, TooLong, Read}
 use Rattle.osm_opl_line.specs.Reading.{Ending, Whole, Cut, BadLine, Reading}
+use Rattle.osm_opl.specs.Pulling.{FaultsOfPull}
+use Rattle.osm_opl.specs.Reader.{ReaderValue, is_ended}
+use Rattle.osm_opl.specs.Standing.{Stands}
+use Rattle.osm_opl.specs.declared.feed.Feed.TheVariants.{Ended}
 use Rattle.osm_cli.specs.Copying.{reading_of}
 use Rattle.osm_cli.specs.Course.{source_limit}
 use Rattle.osm_cli.specs.Outcome.{CountsBy}
 use Rattle.osm_cli.specs.Pulling.{Pulled}
-use Rattle.osm_cli.specs.declared.gathering.PullEnd.{PullEnd}
-use Rattle.osm_cli.specs.declared.gathering.PullEnd.TheVariants.{Ended, Failed, TooLong as PulledTooLong}
 
--- the verdict of a reader that was cut off: its source gave too much, or failed
-abbrev pub verdict_of_cut : PullEnd → Verdict
-verdict_of_cut PulledTooLong = TooLong
-verdict_of_cut Ended = Read
-verdict_of_cut Failed = Read
-
--- the verdict of a reader: clean, its bad line, or why it was cut off
-abbrev pub verdict_by : Ending → PullEnd → Verdict
-verdict_by Whole end = Clean
-verdict_by Cut end = verdict_of_cut end
-verdict_by (BadLine cause line) end = Input cause (Line line)
-
--- the same, where so many bytes were given
+-- the verdict of a reader: clean, its bad line, or why it was cut off, where so many bytes were given
 abbrev pub verdict_of : Ending → ℕ → Verdict
 verdict_of Whole count = Clean
 verdict_of Cut count = if nat_lt source_limit count then TooLong else Read
@@ -44,3 +36,32 @@ pub record SourceIsRead {S : Type 0} (rest : S → Option (List ℕ)) (given fau
   pub cut : reading.ending ≡ Cut → count ≤ source_limit → unpulled ≡ true
   pub is_reading : reading ≡ reading_of bytes clean
   pub verdict_is : verdict ≡ verdict_of reading.ending count
+
+-- the same, and these are the items of the reading
+pub record ItemsRead {S : Type 0} (rest : S → Option (List ℕ)) (given faults : S →
+    ℕ) (before now : S) (count : ℕ) (clean : Bool) (verdict : Verdict) (items : List ItemValue) : Type 0 where
+  pub reading : Reading
+  pub read : SourceIsRead rest given faults before now count clean verdict reading
+  pub all : reading.items ≡ items
+
+-- a reader of a copy was pulled, and stands for what its source gave and for these items
+pub record IsPulled {S : Type 0} (rest : S → Option (List ℕ)) (given faults : S →
+    ℕ) (before now : S) (count : ℕ) (reader : ReaderValue) (items : List ItemValue) : Type 0 where
+  pub bytes : List ℕ
+  pub pulled : Pulled rest given before now count bytes
+  pub stands : Stands reader bytes (is_ended reader.feed) items
+  pub limit : reader.limit ≡ source_limit
+  pub flow : reader.flow ≡ Entities
+  pub ended : reader.feed ≡ Ended → IsAtEnd (rest now)
+  pub pulls : FaultsOfPull reader.feed (faults before) (faults now)
+
+-- and it has its verdict
+pub record IsReadOut {S : Type 0} (rest : S → Option (List ℕ)) (given faults : S →
+    ℕ) (before now : S) (count : ℕ) (reader : ReaderValue) (items : List ItemValue) : Type 0 where
+  pub pulled : IsPulled rest given faults before now count reader items
+  pub over : reader.verdict ≢ Running
+
+-- a reader gave the items that were added: whatever it stood for before, it stands for with them
+abbrev pub GaveMore : ReaderValue → ReaderValue → List ItemValue → List ItemValue → Type 0
+GaveMore old new items more =
+    (bytes : List ℕ) (came : Bool) → Stands old bytes came items → Stands new bytes came more

@@ -5,7 +5,7 @@ use Rattle.std.specs.Io.KnownBytes.{append_known}
 use Rattle.osm_opl_line.specs.Reading.{Reading, stream_of}
 use Rattle.osm_opl_line.specs.Writing.{opl_text}
 use Rattle.osm_cli.specs.Outcome.{CountsBy}
-use Rattle.osm_cli.specs.Pulling.{TookFront}
+use Rattle.osm_opl.specs.Putting.{TookFront}
 use Rattle.osm_cli.specs.Reading.{SourceIsRead}
 use Rattle.osm_cli.specs.declared.copying.Ran.{Ran}
 

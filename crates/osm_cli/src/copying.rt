@@ -47,7 +47,7 @@ fn copy_items<S: Source, K: Sink>(
     ensures puts { K.faults sink.old ≤ K.faults sink.new }
 {
     let read = read_source(alloc, source, given)?;
-    let unput = match put_items(alloc, sink, read.read.items.as_slice()) {
+    let unput = match put_items(alloc, sink, read.items.as_slice()) {
         Ok(()) => false,
         Err(HostError::Failed) => true,
         Err(HostError::Memory) => return Err(NoMemory),

@@ -5,10 +5,10 @@ ghost use Rattle.std.specs.Prelude.{◌≡◌, ◌<◌};
 
 mod arguments;
 mod copying;
-mod gathering;
 mod putting;
 mod reading;
-mod real_files;
+#[cfg(test)]
+mod real_files_tests;
 mod running;
 mod status;
 #[cfg(test)]
@@ -17,7 +17,7 @@ mod words;
 
 use arguments::read_words;
 use osm_entity::{Steps, Text, TextError};
-use real_files::RealFiles;
+use osm_host_std::StdHost;
 use running::run_alone;
 use std::fs::File;
 use std::io::Eprint;
@@ -53,7 +53,7 @@ fn run_words<R: Files<File = File> + Eprint + AllocGlobal + Drop, L: Ledger>(
     requires counts { 0 < blank.parts }
 {
     let alloc = rt.alloc();
-    let mut host = RealFiles::new(rt);
+    let mut host = StdHost::new(rt);
     let mut steps = Steps::<L>::new(blank);
     run_alone(alloc, words, &mut host, &mut steps).code
 }

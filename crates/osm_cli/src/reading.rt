@@ -1,33 +1,30 @@
-//! Reads the items of a source, after all that it gives was gathered.
-ghost use Rattle.std.specs.Prelude.{◌≡◌, ◌≤◌, take, vec_len, IfOk, OnErr, All};
-ghost use Rattle.osm_opl_line.specs.Seen.{ending_seen, reading_seen};
-ghost use Rattle.osm_opl_line.specs.Writing.{IsPlain};
-ghost use Rattle.osm_cli.specs.Course.{source_limit};
-ghost use Rattle.osm_cli.specs.Pulling.{GaveUnheld, is_ended};
-ghost use Rattle.osm_cli.specs.Reading.{SourceIsRead, verdict_by};
+//! Reads the items of a source, pull by pull.
+ghost use Rattle.std.specs.Prelude.{◌≡◌, ◌≤◌, ◌↔◌, IfOk, IsTrue, OnErr, OnOk};
+ghost use Rattle.osm_entity.specs.declared.verdict.Verdict.TheVariants.{Running};
+ghost use Rattle.osm_opl.specs.Reader.{CanPull, SameSource};
+ghost use Rattle.osm_cli.specs.Pulling.{GaveUnheld};
+ghost use Rattle.osm_cli.specs.Reading.{GaveMore, IsPulled, IsReadOut, ItemsRead};
 
-use crate::gathering::{PullEnd, SOURCE_LIMIT, gather};
-use osm_entity::{Bytes, Flow, NoMemory, Spot, Verdict};
+use osm_entity::{Flow, Items, NoMemory, Verdict};
 use osm_host::Source;
-use osm_opl_line::{ReadEnding, ReadItems, read_lines_of};
+use osm_opl::OplReader;
 use std::alloc::Global;
 
-/// How many bytes are asked of a source in one pull.
-const PIECE: usize = 65536;
+/// How many bytes a reader takes of its source.
+pub const SOURCE_LIMIT: u64 = 1 << 40;
 
 /// A source as it was read.
 #[derive(Drop)]
 pub struct SourceRead {
-    /// Its items, and how their reading ended.
-    pub read: ReadItems,
+    pub items: Items,
     /// The verdict of its reader.
     pub verdict: Verdict,
     /// Whether the source answered its end.
     pub clean: bool,
 }
 
-/// Reads a new source to its end, its limit or its failure, and the items of what it gave.
-/// `given` counts what it gave, also at `Err`.
+/// Reads a new source to its end, its first bad line, its limit or its failure, and the items of
+/// what it gave. `given` counts what it gave, also at `Err`.
 pub fn read_source<S: Source>(
     alloc: Global,
     source: &mut S,
@@ -37,70 +34,62 @@ pub fn read_source<S: Source>(
     requires zero { given.old ≡ 0 }
     ensures name { S.name source.new ≡ S.name source.old }
     ensures read { IfOk result
-        (λ r. SourceIsRead S.rest S.given S.faults source.old source.new given.new
-        r.clean r.verdict (reading_seen r.read)) }
-    ensures plain { IfOk result (λ r. All IsPlain r.read.items) }
+        (λ r. ItemsRead S.rest S.given S.faults source.old source.new given.new
+        r.clean r.verdict r.items) }
     ensures err { OnErr result (GaveUnheld S.rest S.given source.old source.new given.new) }
     ensures later { S.faults source.old ≤ S.faults source.new }
 {
-    let mut piece = new_piece(alloc)?;
-    let mut bytes = Bytes::new(alloc);
-    let end = gather(source, piece.as_mut_slice(), &mut bytes, given)?;
-    let clean = is_clean(end);
-    let held = up_to_limit(bytes.as_slice());
-    let read = read_lines_of(alloc, held, Flow::Entities, clean)?;
-    let verdict = verdict_after(read.ending, end);
+    let mut reader = OplReader::new(alloc, Flow::Entities, SOURCE_LIMIT)?;
+    let mut items = Items::new(alloc);
+    pull_items(&mut reader, source, &mut items, given)?;
     Ok(SourceRead {
-        read,
-        verdict,
-        clean,
+        items,
+        verdict: reader.verdict(),
+        clean: reader.has_ended(),
     })
 }
 
-// Room for what one pull gives.
-fn new_piece(alloc: Global) -> Result<Vec<u8>, NoMemory>
-    ensures { IfOk result (λ v. vec_len v ≡ PIECE) }
+// Pulls and takes items until the reader has a verdict.
+fn pull_items<S: Source>(
+    reader: &mut OplReader,
+    source: &mut S,
+    items: &mut Items,
+    given: &mut u64,
+) -> Result<(), NoMemory>
+    requires fresh { IsPulled S.rest S.given S.faults source.old source.old given.old
+        reader.old items.old }
+    requires pulls { CanPull reader.old }
+    ensures name { S.name source.new ≡ S.name source.old }
+    ensures ok { OnOk result (IsReadOut S.rest S.given S.faults source.old source.new given.new
+        reader.new items.new) }
+    ensures err { OnErr result (GaveUnheld S.rest S.given source.old source.new given.new) }
+    ensures later { S.faults source.old ≤ S.faults source.new }
 {
-    match vec![in alloc; 0u8; PIECE] {
-        Ok(piece) => Ok(piece),
-        Err(_) => Err(NoMemory),
+    for _turn in 0..SOURCE_LIMIT + 1 {
+        reader.pull(source)?;
+        *given = reader.given();
+        take_items(reader, items)?;
+        if !is_running(reader.verdict()) {
+            return Ok(());
+        }
     }
+    unreachable!()
 }
 
-// Whether the source answered its end.
-fn is_clean(end: PullEnd) -> bool
-    ensures { result ≡ is_ended end }
+fn is_running(verdict: Verdict) -> bool
+    ensures { IsTrue result ↔ verdict ≡ Running }
 {
-    match end {
-        PullEnd::Ended => true,
-        PullEnd::Failed | PullEnd::TooLong => false,
-    }
+    verdict == Verdict::Running
 }
 
-// The bytes that a reader takes of those that its source gave.
-fn up_to_limit(bytes: &[u8]) -> &[u8]
-    ensures { result.now ≡ take source_limit bytes.now }
+// Takes all items that the reader has.
+fn take_items(reader: &mut OplReader, items: &mut Items) -> Result<(), NoMemory>
+    ensures gave { OnOk result (GaveMore reader.old reader.new items.old items.new) }
+    ensures stops { OnOk result (reader.new.verdict ≡ Running → CanPull reader.new) }
+    ensures same { SameSource reader.old reader.new }
 {
-    if bytes.len() as u64 > SOURCE_LIMIT {
-        &bytes[..SOURCE_LIMIT as usize]
-    } else {
-        bytes
+    while let Some(item) = reader.next()? {
+        items.push(item)?;
     }
-}
-
-// The verdict of a reader, by its reading and by what ended its pulls.
-fn verdict_after(ending: ReadEnding, end: PullEnd) -> Verdict
-    ensures { result ≡ verdict_by (ending_seen ending) end }
-{
-    match ending {
-        ReadEnding::Whole => Verdict::Clean,
-        ReadEnding::BadLine { cause, line } => Verdict::Input {
-            cause,
-            spot: Spot::Line(line),
-        },
-        ReadEnding::Cut => match end {
-            PullEnd::TooLong => Verdict::TooLong,
-            PullEnd::Ended | PullEnd::Failed => Verdict::Read,
-        },
-    }
+    Ok(())
 }

@@ -5,7 +5,7 @@ ghost use Rattle.std.specs.List.{AllPairs};
 use crate::running::run_alone;
 use crate::status::{DeviceCall, Fault, SourceEnd, Status};
 use osm_entity::{Bytes, Cause, NoMemory, Sequence, Spot, Steps, Text, TextError};
-use osm_host::{FailAt, Fails, FileHeld, Files, MemoryHost, Op};
+use osm_host::{FailAt, Fails, FileHeld, Files, Host, MemoryHost, Op};
 use std::alloc::Global;
 use std::marker::Brand;
 use std::process::Abort;
@@ -16,7 +16,17 @@ use std::test::Fail;
 const COPY: [&[u8]; 4] = [b"--read-opl", b"file=a", b"--write-opl", b"file=b"];
 
 /// The line that is written for `n1 x1.5 y2`.
-const LINE: &[u8] = b"n1 v0 dV c0 t i0 u T x1.5 y2\n";
+pub(crate) const LINE: &[u8] = b"n1 v0 dV c0 t i0 u T x1.5 y2\n";
+
+/// A node with escapes in its texts, and its copy.
+const ESCAPED: &[u8] = b"n7 uA%20%b Tname=50%25%%2c%%40%\xc3\xa9 x0 y-0.5\n";
+
+const ESCAPED_COPY: &[u8] = b"n7 v0 dV c0 t i0 uA%20%b Tname=50%25%%2c%%40%\xc3\xa9 x0 y-0.5\n";
+
+/// The copies of a way and a relation.
+const PARTS_COPY: &[u8] = b"w5 v0 dV c0 t i0 u T N\nr6 v0 dV c0 t i0 u T Mn1@,w5@x%20%y\n";
+
+const REFS_COPY: &[u8] = b"w5 v0 dV c0 t i0 u T Nn1,n2\n";
 
 /// What `b` holds before each run.
 const BEFORE: &[u8] = b"as before";
@@ -49,7 +59,7 @@ fn text(alloc: Global, bytes: &[u8]) -> Result<Text, NoMemory> {
     }
 }
 
-fn words_of(alloc: Global, words: &[&[u8]]) -> Result<Sequence<Text>, NoMemory> {
+pub(crate) fn words_of(alloc: Global, words: &[&[u8]]) -> Result<Sequence<Text>, NoMemory> {
     let mut texts = Sequence::new(alloc);
     for word in words {
         texts.push(text(alloc, word)?)?;
@@ -88,10 +98,10 @@ fn fails_of(alloc: Global, fails: Failing) -> Result<Fails, NoMemory> {
 }
 
 /// Runs the words on a host, with a count of steps of its own.
-fn run_counted<L: Ledger>(
+fn run_counted<H: Host, L: Ledger>(
     alloc: Global,
     words: &[Text],
-    host: &mut MemoryHost,
+    host: &mut H,
     blank: Blank,
 ) -> Status
     requires name { blank.name ≡ L.name }
@@ -102,8 +112,8 @@ fn run_counted<L: Ledger>(
     run_alone(alloc, words, host, &mut steps)
 }
 
-fn run_on(alloc: Global, words: &[Text], host: &mut MemoryHost) -> Status {
-    run_counted::<Brand>(alloc, words, host, Blank::new(1))
+pub(crate) fn run_on<H: Host>(alloc: Global, words: &[Text], host: &mut H) -> Status {
+    run_counted::<H, Brand>(alloc, words, host, Blank::new(1))
 }
 
 /// What the host holds under this name.
@@ -150,17 +160,17 @@ fn device(task: u32, call: DeviceCall) -> Fault {
     Fault::Device { task, call }
 }
 
-fn not_built(line: u64) -> Fault {
+fn bad(cause: Cause, line: u64) -> Fault {
     Fault::Input {
         task: 0,
-        cause: Cause::NotBuilt,
+        cause,
         spot: Spot::Line(line),
     }
 }
 
 /// The copies: a sentence, `a`, the pieces, the call that fails, `b` afterwards, the fault, the entry.
 #[rattlefmt::skip]
-fn copies() -> [Row; 14] {
+fn copies() -> [Row; 26] {
     let open_a = device(0, DeviceCall::Open);
     let open_b = device(1, DeviceCall::Open);
     let read = device(0, DeviceCall::Read);
@@ -176,17 +186,36 @@ fn copies() -> [Row; 14] {
         ("a node is copied", node, BOTH, NONE, LINE, clean, (11, true)),
         ("digits alone are degrees", Some(b"n1 x1 y1\n"), BOTH, NONE, digits, clean, (9, true)),
         ("a line without a newline is read", unended, BOTH, NONE, LINE, clean, (10, true)),
+        ("texts are unescaped and escaped", Some(ESCAPED), BOTH, NONE, ESCAPED_COPY, clean, (43, true)),
+        ("a way and a relation are copied", Some(b"w5\nr6 Mn1@,w5@x%20%y\n"), BOTH, NONE, PARTS_COPY,
+            clean, (21, true)),
+        ("an id is past 64 bits", Some(b"n-9223372036854775808 x180 y-90\nn9223372036854775808 x0 y0\n"),
+            BOTH, NONE, b"n-9223372036854775808 v0 dV c0 t i0 u T x180 y-90\n", bad(Cause::BadNumber, 2),
+            (59, false)),
         ("the second pull fails", unended, (4096, 4096), (b"a", Op::Pull, 2), b"", read, (10, false)),
         ("the eleventh pull fails", unended, (1, 1), (b"a", Op::Pull, 11), b"", read, (10, false)),
-        ("a way is not built", Some(b"n1 x1.5 y2\nw5\n"), BOTH, NONE, LINE, not_built(2), (14, true)),
-        ("a longitude past 180", Some(b"n1 x181 y0\n"), BOTH, NONE, b"", not_built(1), (11, true)),
-        ("zeros lead and end", Some(b"n01 x1.50 y2\n"), BOTH, NONE, LINE, clean, (13, true)),
+        ("blanks and comments are skipped", Some(b"# nodes\n\n \t\nn01 x1.50 y+2\n"), BOTH, NONE, LINE, clean,
+            (26, true)),
+        ("a second line is bad", Some(b"n1 x1.5 y2\nq5\n"), BOTH, NONE, LINE, bad(Cause::BadField, 2),
+            (14, false)),
+        ("x twice", Some(b"n1 x0 y0 x1\n"), BOTH, NONE, b"", bad(Cause::TwiceField, 1), (12, false)),
+        ("no such letter", Some(b"n1 v0 q\n"), BOTH, NONE, b"", bad(Cause::BadField, 1), (8, false)),
+        ("deleted", Some(b"n1 dD x0 y0\n"), BOTH, NONE, b"", bad(Cause::Deleted, 1), (12, false)),
+        ("a longitude past 180", Some(b"n1 x181 y0\n"), BOTH, NONE, b"", bad(Cause::BadCoordinate, 1),
+            (11, false)),
+        ("a second of 60", Some(b"n1 t2010-01-01T00:00:60Z x0 y0\n"), BOTH, NONE, b"", bad(Cause::BadTime, 1),
+            (31, false)),
+        ("no character", Some(b"n1 u%110000% x0 y0\n"), BOTH, NONE, b"", bad(Cause::BadEscape, 1), (19, false)),
+        ("half a place", Some(b"n1 x0\n"), BOTH, NONE, b"", bad(Cause::NoPlace, 1), (6, false)),
+        ("a tag without a key", Some(b"n1 T=b x0 y0\n"), BOTH, NONE, b"", bad(Cause::BadField, 1), (13, false)),
+        ("no UTF-8", Some(b"n1 u\xff x0 y0\n"), BOTH, NONE, b"", bad(Cause::BadText, 1), (12, false)),
         ("a bad line is before a failed pull", Some(b"x\nn1 x0"), (4096, 4096),
-            (b"a", Op::Pull, 2), b"", not_built(1), (7, false)),
+            (b"a", Op::Pull, 2), b"", bad(Cause::BadField, 1), (7, false)),
         ("there is no file to read", None, BOTH, NONE, BEFORE, open_a, (0, false)),
         ("no file can be made", node, BOTH, (b"b", Op::Make, 1), BEFORE, open_b, (0, false)),
         ("the first put fails", node, BOTH, (b"b", Op::Put, 1), half, write, (11, true)),
         ("the keep fails", node, BOTH, (b"b", Op::Keep, 1), b"", keep, (11, true)),
+        ("spaces stand at both ends", Some(b" w5  Nn1,n2 "), BOTH, NONE, REFS_COPY, clean, (12, true)),
     ]
 }
 
@@ -196,6 +225,25 @@ fn a_copy_is_as_its_row_says(rt: HostRuntime) -> Result<(), Fail> {
         for piece in [row.2.0, row.2.1] {
             check(&rt, row, piece.max(1))?;
         }
+    }
+    Ok(())
+}
+
+#[test]
+fn a_line_too_long_is_refused_however_it_comes(rt: HostRuntime) -> Result<(), Fail> {
+    let alloc = rt.alloc();
+    let length = 16_777_217;
+    let mut line = Bytes::with_room(alloc, length)?;
+    for _turn in 0..length {
+        line.push(b'#')?;
+    }
+    for piece in [BOTH.0, BOTH.1] {
+        let files = files_of(alloc, Some(line.as_slice()))?;
+        let mut host = MemoryHost::new(alloc, files, piece, Fails::new(alloc), false)?;
+        let words = words_of(alloc, &COPY)?;
+        let status = run_on(alloc, words.as_slice(), &mut host);
+        assert_eq!(rt; status.fault, bad(Cause::LineTooLong, 1), "{piece}");
+        assert_eq!(rt; held(&host, b"b"), Some(b"".as_slice()), "{piece}");
     }
     Ok(())
 }

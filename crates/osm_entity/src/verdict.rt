@@ -47,8 +47,6 @@ pub enum Cause {
     Unordered,
     /// A polygon file that isn't well formed.
     BadPoly,
-    /// A line that may be right, and that isn't read yet.
-    NotBuilt,
 }
 
 /// Where an input is wrong.

@@ -1,6 +1,6 @@
 -- What a host in memory and its sources mean: they tell everything.
 -- Here each meaning is a value; the code keeps lists, places and numbers.
-use Rattle.std.specs.Prelude.{◌≡◌, ◌++◌, ℕ, ◌/◌, List, length, take, drop, min, Option, Some}
+use Rattle.std.specs.Prelude.{◌≡◌, ◌++◌, ℕ, ◌/◌, List, length, take, drop, min, Bool, Option, Some}
 use Rattle.osm_host.specs.Held.{files_of}
 use Rattle.osm_host.specs.Moments.{Moment}
 use Rattle.osm_host.specs.Tallies.{faults_in, given_in, names_in}
@@ -22,6 +22,10 @@ pull_size left buf piece = min (min (length left) (length buf)) piece
 -- the first half of a piece, rounded down, was added
 abbrev pub HasHalf : List ℕ → List ℕ → List ℕ → Type 0
 HasHalf piece before now = now ≡ before ++ take (length piece / 2) piece
+
+-- whether each say of a host in memory fails
+abbrev pub is_muted : MemoryHost → Bool
+is_muted host = host.is_mute
 
 -- the six meanings of a host in memory
 abbrev pub moment_of : MemoryHost → Moment

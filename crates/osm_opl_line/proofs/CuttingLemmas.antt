@@ -1,34 +1,79 @@
--- What the pieces of a line say where each begins with its letter.
-use Rattle.std.proofs.Common.{◌≡◌, ℕ, ◌<◌, List, [], ◌∷◌, length, Some, arith, sym, refl}
-use Rattle.std.specs.Prelude.{◌==◌}
-use Rattle.std.specs.List.{slice_split}
-use Rattle.std.proofs.lemmas.Bool.{eqb-true}
-use Rattle.std.proofs.lemmas.List.Splits.{length-slice_split}
-use Rattle.std.proofs.lemmas.Option.{cond_some, none-some}
+-- What a line says, test by test.
+use Rattle.std.proofs.Common.{◌≡◌, ◌∙◌, ◌<◌, ◌≤◌, ℕ, ℤ, true, false, List, [], ◌∷◌, length, Some, None, refl, ap, arith}
+use Rattle.std.specs.Prelude.{◌==◌, if◌then◌else◌, not, slice_index}
+use Rattle.std.specs.List.{list_any}
+use Rattle.std.specs.Str.{is_utf8}
+use Rattle.std.proofs.lemmas.Bool.{lt-ltb, le-ltb, ne_eqb}
 use Rattle.osm_entity.specs.declared.kind.Flow.{Flow}
+use Rattle.osm_entity.specs.declared.kind.Kind.{Kind}
+use Rattle.osm_entity.specs.declared.verdict.Cause.TheVariants.{BadText, BadField, LineTooLong}
 use Rattle.osm_text.specs.Numbers.{whole}
-use Rattle.osm_opl_line.specs.Line.{content_of, fields_of, plain_of}
+use Rattle.osm_opl_line.specs.Contents.{kind_by}
+use Rattle.osm_opl_line.specs.Fields.{Fields, fields_from, fields_of, fault_among, pieces}
+use Rattle.osm_opl_line.specs.Line.{Skipped, Bad, is_control, judged, longest_line, opl_line, said_of}
 
--- bytes have at least one part
-pub slice_split-nonempty : (byte : ℕ) (bytes : List ℕ) → 0 < length (slice_split (λ b. b == byte) bytes)
-slice_split-nonempty byte bytes = omega (arith, length-slice_split (λ b. b == byte) bytes)
+-- a line that is too long is bad
+pub opl_line-long : (flow : Flow) (line : List ℕ) → longest_line < length line →
+    opl_line flow line ≡ Bad LineTooLong
+unfolding opl_line
+opl_line-long flow line long = rw (lt-ltb longest_line (length line) long) refl
 
--- a piece with a content is its letter and that content
-pub content_of-piece : (letter : ℕ) (piece rest : List ℕ) → Some rest ≡ content_of letter piece → piece ≡ letter ∷ rest
-content_of-piece letter [] rest found = absurd (none-some rest (sym found))
-content_of-piece letter (first ∷ more) rest found =
-    let parts = cond_some (first == letter) more rest (sym found) in
-    let same : first ≡ letter = eqb-true first letter parts.0 in
-    let equal : more ≡ rest = parts.1 in
-    cc
+-- a line that begins with # is skipped
+pub opl_line-hash : (flow : Flow) (line : List ℕ) → length line ≤ longest_line → (slice_index line 0 == 35) ≡ true →
+    opl_line flow line ≡ Skipped
+unfolding opl_line
+opl_line-hash flow line short hash = rw (le-ltb longest_line (length line) short, hash) refl
 
--- the fields of three pieces with their letters
-pub fields_of-pieces : (flow : Flow) (parts : List (List ℕ)) (first second third id x y : List ℕ) →
-    parts ≡ first ∷ second ∷ third ∷ [] → Some id ≡ content_of 110 first → Some x ≡ content_of 120 second →
-    Some y ≡ content_of 121 third → fields_of flow parts ≡ plain_of flow x y (whole id)
-fields_of-pieces flow parts first second third id x y cut n e s =
-    let is_n : first ≡ 110 ∷ id = content_of-piece 110 first id n in
-    let is_x : second ≡ 120 ∷ x = content_of-piece 120 second x e in
-    let is_y : third ≡ 121 ∷ y = content_of-piece 121 third y s in
-    let whole_line : parts ≡ (110 ∷ id) ∷ (120 ∷ x) ∷ (121 ∷ y) ∷ [] = cc in
-    rw whole_line refl
+-- a line without pieces is skipped
+pub opl_line-empty : (flow : Flow) (line : List ℕ) → length line ≤ longest_line → (slice_index line 0 == 35) ≡ false →
+    pieces line ≡ [] → opl_line flow line ≡ Skipped
+unfolding opl_line
+opl_line-empty flow line short plain none = rw (le-ltb longest_line (length line) short, plain, none) refl
+
+-- a line with a piece is judged by its bytes and its pieces
+opl_line-pieces : (flow : Flow) (line : List ℕ) {first : List ℕ} {more : List (List ℕ)} → length line ≤ longest_line →
+    (slice_index line 0 == 35) ≡ false → pieces line ≡ first ∷ more →
+    opl_line flow line
+    ≡ (if not (is_utf8 line) then Bad BadText
+    else if list_any is_control line then Bad BadField
+    else said_of flow (first ∷ more))
+unfolding opl_line
+opl_line-pieces flow line {first} {more} short plain some =
+    let several : (length (first ∷ more) == 0) ≡ false = ne_eqb (length (first ∷ more)) 0 (λ e. absurd (omega arith)) in
+    rw (le-ltb longest_line (length line) short, plain, some, several) refl
+
+-- a line with a piece that isn't UTF-8 is bad
+pub opl_line-not_utf8 : (flow : Flow) (line : List ℕ) {first : List ℕ} {more : List (List ℕ)} →
+    length line ≤ longest_line → (slice_index line 0 == 35) ≡ false → pieces line ≡ first ∷ more →
+    is_utf8 line ≡ false → opl_line flow line ≡ Bad BadText
+opl_line-not_utf8 flow line short plain some bad =
+    opl_line-pieces flow line short plain some ∙ rw bad refl
+
+-- a line of text with a control byte is bad
+pub opl_line-control : (flow : Flow) (line : List ℕ) {first : List ℕ} {more : List (List ℕ)} →
+    length line ≤ longest_line → (slice_index line 0 == 35) ≡ false → pieces line ≡ first ∷ more → is_utf8 line ≡ true →
+    list_any is_control line ≡ true → opl_line flow line ≡ Bad BadField
+opl_line-control flow line short plain some text control =
+    opl_line-pieces flow line short plain some ∙ rw (text, control) refl
+
+-- any other line says what its pieces say
+pub opl_line-said : (flow : Flow) (line : List ℕ) {first : List ℕ} {more : List (List ℕ)} → length line ≤ longest_line →
+    (slice_index line 0 == 35) ≡ false → pieces line ≡ first ∷ more → is_utf8 line ≡ true →
+    list_any is_control line ≡ false → opl_line flow line ≡ said_of flow (first ∷ more)
+opl_line-said flow line short plain some text free =
+    opl_line-pieces flow line short plain some ∙ rw (text, free) refl
+
+-- pieces without a fault are judged by their fields
+pub said_of-drafted : (flow : Flow) (kind : Kind) (letter : ℕ) (id : List ℕ) (n : ℤ) (parts : List (List ℕ))
+    (f : Fields) →
+    Some kind ≡ kind_by letter → Some n ≡ whole id → None ≡ fault_among kind [] parts →
+    fields_from flow kind n parts ≡ f → said_of flow ((letter ∷ id) ∷ parts) ≡ judged f
+said_of-drafted flow kind letter id n parts f is_kind is_id sound fields =
+    rw (← is_kind, ← is_id, ← sound) (ap judged fields)
+
+-- the fields of pieces, by their kind and id
+pub fields_of-drafted : (flow : Flow) (kind : Kind) (letter : ℕ) (id : List ℕ) (n : ℤ) (parts : List (List ℕ))
+    (f : Fields) →
+    Some kind ≡ kind_by letter → Some n ≡ whole id → fields_from flow kind n parts ≡ f →
+    fields_of flow ((letter ∷ id) ∷ parts) ≡ Some f
+fields_of-drafted flow kind letter id n parts f is_kind is_id fields = rw (← is_kind, ← is_id, fields) refl

@@ -1,5 +1,11 @@
+pub mod Contents
 pub mod Cut
+pub mod Draft
+pub mod Fields
+pub mod Item
 pub mod Line
+pub mod LineParts
 pub mod Reading
 pub mod Seen
+pub mod Writable
 pub mod Writing

@@ -1,21 +1,20 @@
--- What a line of an OPL file says: an item, or a cause why it can't be read.
--- Here a line is cut at once into all its pieces; the code moves a place through the line.
-use Rattle.std.specs.Prelude.{ℕ, ℤ, List, [], ◌∷◌, ◌&&◌, ◌==◌, if◌then◌else◌, option_and_then, Option, Some, None}
-use Rattle.std.specs.List.{slice_split}
-use Rattle.std.specs.Option.{option_map}
-use Rattle.osm_entity.specs.Entities.{EntityValue, place_fits}
+-- What a line of an OPL file says: nothing, an item, or a cause why it is bad.
+-- Here each test looks at the whole line; the code goes through the line once.
+use Rattle.std.specs.Prelude.{ℕ, ℤ, List, [], ◌∷◌, length, Bool, true, false, ◌&&◌, ◌||◌, ◌==◌, not, nat_lt, if◌then◌else◌, Option, Some, None, slice_index}
+use Rattle.std.specs.List.{list_any}
+use Rattle.std.specs.Str.{is_utf8}
+use Rattle.osm_entity.specs.Entities.{weight_of}
 use Rattle.osm_entity.specs.Items.{ItemValue}
-use Rattle.osm_entity.specs.declared.item.Act.{Act}
-use Rattle.osm_entity.specs.declared.item.Act.TheVariants.{Keep, Modify}
 use Rattle.osm_entity.specs.declared.kind.Flow.{Flow}
 use Rattle.osm_entity.specs.declared.kind.Flow.TheVariants.{Entities, Changes}
 use Rattle.osm_entity.specs.declared.kind.Kind.{Kind}
-use Rattle.osm_entity.specs.declared.kind.Kind.TheVariants.{Node as OfNode}
-use Rattle.osm_entity.specs.declared.parts.Place.{Place}
-use Rattle.osm_entity.specs.declared.parts.Body.TheVariants.{Node}
+use Rattle.osm_entity.specs.declared.kind.Kind.TheVariants.{Node as OfNode, Way as OfWay, Relation as OfRelation}
 use Rattle.osm_entity.specs.declared.verdict.Cause.{Cause}
-use Rattle.osm_entity.specs.declared.verdict.Cause.TheVariants.{NotBuilt}
-use Rattle.osm_text.specs.Numbers.{whole, short}
+use Rattle.osm_entity.specs.declared.verdict.Cause.TheVariants.{BadText, BadField, BadNumber, NoPlace, Deleted, TooHeavy, LineTooLong}
+use Rattle.osm_text.specs.Numbers.{whole}
+use Rattle.osm_opl_line.specs.Contents.{degrees_in, kind_by}
+use Rattle.osm_opl_line.specs.Fields.{Fields, fields_from, fault_among, pieces}
+use Rattle.osm_opl_line.specs.Item.{value_of, is_deleted, entity_of, item_of}
 
 -- a line is skipped, or says an item, or is bad for a cause
 pub data LineValue : Type 0 where
@@ -23,98 +22,69 @@ pub data LineValue : Type 0 where
   Good : (item : ItemValue) → LineValue
   Bad : (cause : Cause) → LineValue
 
--- the fields of a line, each with the content after its letter
-pub record Fields : Type 0 where
-  pub flow : Flow
-  pub kind : Kind
-  pub id : ℤ
-  pub v : Option (List ℕ)
-  pub d : Option (List ℕ)
-  pub c : Option (List ℕ)
-  pub t : Option (List ℕ)
-  pub i : Option (List ℕ)
-  pub u : Option (List ℕ)
-  pub tags : Option (List ℕ)
-  pub x : Option (List ℕ)
-  pub y : Option (List ℕ)
-  pub list : Option (List ℕ)
+-- the most bytes of a line, and the most that an entity weighs
+abbrev pub longest_line : ℕ
+longest_line = 16777216
 
--- a line's pieces stand between single spaces
-abbrev pub pieces : List ℕ → List (List ℕ)
-pieces line = slice_split (λ b. b == 32) line
+abbrev pub heaviest : ℕ
+heaviest = 2097152
 
--- the fields of a node that has an id, x and y, and nothing else
-abbrev pub plain_fields : Flow → List ℕ → List ℕ → ℤ → Fields
-plain_fields flow x y id = record {
-  flow = flow;
-  kind = OfNode;
-  id = id;
-  v = None;
-  d = None;
-  c = None;
-  t = None;
-  i = None;
-  u = None;
-  tags = None;
-  x = Some x;
-  y = Some y;
-  list = None;
-}
+-- a file of this flow has changes
+abbrev pub is_changes : Flow → Bool
+is_changes Entities = false
+is_changes Changes = true
 
--- the fields of such a node, where it has an id
-abbrev pub plain_of : Flow → List ℕ → List ℕ → Option ℤ → Option Fields
-plain_of flow x y id = option_map (plain_fields flow x y) id
+-- a place lacks one of its degrees, or both where the node isn't gone
+abbrev pub lacks_degrees : Bool → Option ℤ → Option ℤ → Bool
+lacks_degrees gone (Some lon) (Some lat) = false
+lacks_degrees gone None None = not gone
+lacks_degrees gone lon lat = true
 
--- the content of a piece, where it begins with this letter
-abbrev pub content_of : ℕ → List ℕ → Option (List ℕ)
-content_of letter [] = None
-content_of letter (first ∷ rest) = if first == letter then Some rest else None
+-- a node lacks its place; only a delete of a change file may have none
+abbrev pub lacks_place : Kind → Fields → Bool
+lacks_place OfNode f =
+    lacks_degrees (is_changes f.flow && is_deleted f)
+    (value_of None (degrees_in 180) f.x) (value_of None (degrees_in 90) f.y)
+lacks_place OfWay f = false
+lacks_place OfRelation f = false
 
--- the fields of three pieces: n and an id, x and a content, y and a content
-abbrev pub fields_of : Flow → List (List ℕ) → Option Fields
-fields_of flow ((n ∷ id) ∷ (x ∷ lon) ∷ (y ∷ lat) ∷ []) =
-    if n == 110 && x == 120 && y == 121 then plain_of flow lon lat (whole id) else None
-fields_of flow parts = None
+-- what fields say none of which has a fault of its own
+abbrev pub judged : Fields → LineValue
+judged f =
+    if lacks_place f.kind f then Bad NoPlace
+    else if not (is_changes f.flow) && is_deleted f then Bad Deleted
+    else if nat_lt heaviest (weight_of (entity_of f)) then Bad TooHeavy
+    else Good (item_of f)
 
--- a line of an entity file keeps its entity; of a change file, at version 0, it modifies it
-abbrev pub act_in : Flow → Act
-act_in Entities = Keep
-act_in Changes = Modify
+-- the first fault of the fields, else what they say together
+abbrev pub after_fault : Option Cause → Fields → LineValue
+after_fault (Some cause) f = Bad cause
+after_fault None f = judged f
 
--- a node with an id and a place, and nothing else
-abbrev pub plain_node : ℤ → Place → EntityValue
-plain_node id place = record {
-  id = id;
-  version = 0;
-  time = 0;
-  changeset = 0;
-  uid = 0;
-  user = [];
-  tags = [];
-  body = Node (Some place);
-}
+-- what fields of a kind and an id say, where the letter is that of a kind and the id a number
+abbrev pub said_by : Flow → Option Kind → Option ℤ → List (List ℕ) → LineValue
+said_by flow None id parts = Bad BadField
+said_by flow (Some kind) None parts = Bad BadNumber
+said_by flow (Some kind) (Some id) parts = after_fault (fault_among kind [] parts) (fields_from flow kind id parts)
 
--- the item of a node with this id at this place
-abbrev pub plain_item : Flow → ℤ → Place → ItemValue
-plain_item flow id place = record { act = act_in flow; entity = plain_node id place }
+-- what pieces say: the letter of a kind and an id, and then the fields
+abbrev pub said_of : Flow → List (List ℕ) → LineValue
+said_of flow ((letter ∷ id) ∷ parts) = said_by flow (kind_by letter) (whole id) parts
+said_of flow parts = Skipped
 
--- the item of an id and two numbers, where both are numbers within 180 and 90 degrees
-abbrev pub node_of : Flow → ℤ → Option ℤ → Option ℤ → Option ItemValue
-node_of flow id (Some lon) (Some lat) =
-    if place_fits (record { lon = lon; lat = lat })
-    then Some (plain_item flow id (record { lon = lon; lat = lat }))
-    else None
-node_of flow id lon lat = None
+-- a control byte is below 32 and no tab
+abbrev pub is_control : ℕ → Bool
+is_control b = nat_lt b 32 && not (b == 9)
 
--- the item that the fields say
-abbrev pub item_of : Fields → Option ItemValue
-item_of f = node_of f.flow f.id (option_and_then short f.x) (option_and_then short f.y)
-
--- what a line says where it says an item; every other line isn't read yet
-abbrev pub said_by : Option ItemValue → LineValue
-said_by (Some item) = Good item
-said_by None = Bad NotBuilt
+-- a line is skipped where it begins with # or has nothing but spaces and tabs
+abbrev pub is_skipped : List ℕ → Bool
+is_skipped line = (slice_index line 0 == 35) || (length (pieces line) == 0)
 
 -- what a line of a file of this flow says
-abbrev pub opl_line : Flow → List ℕ → LineValue
-opl_line flow line = said_by (option_and_then item_of (fields_of flow (pieces line)))
+unfoldable pub opl_line : Flow → List ℕ → LineValue
+opl_line flow line =
+    if nat_lt longest_line (length line) then Bad LineTooLong
+    else if is_skipped line then Skipped
+    else if not (is_utf8 line) then Bad BadText
+    else if list_any is_control line then Bad BadField
+    else said_of flow (pieces line)

@@ -1,6 +1,6 @@
 -- What an OPL file says: its items up to its first bad line, and how the reading ends.
 -- Here the whole file is cut at once at its newlines; the code goes from line to line.
-use Rattle.std.specs.Prelude.{ℕ, ◌+◌, List, [], ◌∷◌, ◌++◌, length, Bool, true, false, ◌&&◌, ◌==◌, nat_lt, if◌then◌else◌}
+use Rattle.std.specs.Prelude.{ℕ, ◌+◌, List, [], ◌∷◌, ◌++◌, length, Bool, true, false, ◌&&◌, ◌||◌, ◌==◌, nat_lt, if◌then◌else◌}
 use Rattle.std.specs.List.{slice_split}
 use Rattle.osm_entity.specs.Items.{ItemValue}
 use Rattle.osm_entity.specs.Streams.{Stream}
@@ -8,7 +8,7 @@ use Rattle.osm_entity.specs.declared.kind.Flow.{Flow}
 use Rattle.osm_entity.specs.declared.stream.End.{End}
 use Rattle.osm_entity.specs.declared.stream.End.TheVariants.{Done, Broken}
 use Rattle.osm_entity.specs.declared.verdict.Cause.{Cause}
-use Rattle.osm_opl_line.specs.Line.{LineValue, Skipped, Good, Bad, opl_line}
+use Rattle.osm_opl_line.specs.Line.{LineValue, Skipped, Good, Bad, longest_line, opl_line}
 
 -- a reading is whole, cut off before its end, or ends at a bad line, counted from 1
 pub data Ending : Type 0 where
@@ -21,10 +21,14 @@ pub record Reading : Type 0 where
   pub items : List ItemValue
   pub ending : Ending
 
--- the lines of a file's pieces: the bytes after the last newline are one if there are any and the file ended cleanly
+-- the bytes after the last newline are a line if there are any and the file ended cleanly, or if they are too many
+abbrev pub is_line : Bool → List ℕ → Bool
+is_line clean rest = clean && nat_lt 0 (length rest) || nat_lt longest_line (length rest)
+
+-- the lines of a file's pieces
 abbrev pub lines_of : Bool → List (List ℕ) → List (List ℕ)
 lines_of clean [] = []
-lines_of clean (rest ∷ []) = if clean && nat_lt 0 (length rest) then rest ∷ [] else []
+lines_of clean (rest ∷ []) = if is_line clean rest then rest ∷ [] else []
 lines_of clean (line ∷ part ∷ parts) = line ∷ lines_of clean (part ∷ parts)
 
 -- where no line is bad, a file that ended cleanly was read whole, and else it was cut off

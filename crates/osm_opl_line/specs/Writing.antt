@@ -1,38 +1,75 @@
 -- The bytes of an OPL file: one line for each item, all of one form.
 -- Here a line is one formula of its item; the code appends field after field.
-use Rattle.std.specs.Prelude.{ℕ, List, [], ◌++◌, ◌≡◌, Some, None, codes}
+use Rattle.std.specs.Prelude.{ℕ, ℤ, zero, suc, List, [], ◌∷◌, ◌++◌, ◌≡◌, map, Some, None, codes, decimal}
 use Rattle.std.specs.Fmt.{signed_decimal}
-use Rattle.std.specs.List.{flat_map}
-use Rattle.osm_entity.specs.Items.{ItemValue}
+use Rattle.std.specs.List.{flat_map, join_with_byte}
+use Rattle.osm_entity.specs.Items.{ItemValue, kind_of}
 use Rattle.osm_entity.specs.Streams.{Stream}
-use Rattle.osm_entity.specs.declared.item.Act.TheVariants.{Keep}
+use Rattle.osm_entity.specs.declared.item.Act.{Act}
+use Rattle.osm_entity.specs.declared.item.Act.TheVariants.{Delete}
+use Rattle.osm_entity.specs.declared.kind.Kind.{Kind}
+use Rattle.osm_entity.specs.declared.kind.Kind.TheVariants.{Node as OfNode, Way as OfWay, Relation as OfRelation}
 use Rattle.osm_entity.specs.declared.parts.Place.{Place}
+use Rattle.osm_entity.specs.declared.parts.Tag.{Tag}
+use Rattle.osm_entity.specs.declared.parts.Member.{Member}
 use Rattle.osm_entity.specs.declared.parts.Body.{Body}
 use Rattle.osm_entity.specs.declared.parts.Body.TheVariants.{Node, Way, Relation}
+use Rattle.osm_text.specs.Escapes.{escaped}
 use Rattle.osm_text.specs.Numbers.{nano_text}
-use Rattle.osm_opl_line.specs.Line.{plain_node}
+use Rattle.osm_text.specs.Times.{time_text}
 
--- an item that keeps a node with an id and a place, and nothing else
-pub record IsPlain (item : ItemValue) : Type 0 where
-  pub place : Place
-  pub kept : item.act ≡ Keep
-  pub plain : item.entity ≡ plain_node item.entity.id place
+-- the letter of a kind
+abbrev pub kind_letter : Kind → ℕ
+kind_letter OfNode = 110
+kind_letter OfWay = 119
+kind_letter OfRelation = 114
+
+-- D for a delete, else V
+abbrev pub act_text : Act → List ℕ
+act_text Delete = codes "D"
+act_text act = codes "V"
+
+-- a time; nothing for 0
+abbrev pub time_field : ℕ → List ℕ
+time_field zero = []
+time_field (suc seconds) = time_text (suc seconds)
+
+-- a key and its value
+abbrev pub tag_text : Tag → List ℕ
+tag_text t = escaped t.key ++ 61 ∷ escaped t.value
+
+-- a ref
+abbrev pub ref_text : ℤ → List ℕ
+ref_text id = 110 ∷ signed_decimal id
+
+-- a member's kind, id and role
+abbrev pub member_text : Member → List ℕ
+member_text m = kind_letter m.kind ∷ signed_decimal m.id ++ 64 ∷ escaped m.role
 
 -- x and y with the degrees of a place
 abbrev pub place_text : Place → List ℕ
 place_text p = codes " x" ++ nano_text p.lon ++ codes " y" ++ nano_text p.lat
 
--- the fields that only a node has
+-- the fields that only a kind has
 abbrev pub body_text : Body → List ℕ
 body_text (Node (Some p)) = place_text p
 body_text (Node None) = codes " x y"
-body_text (Way refs) = []
-body_text (Relation members) = []
+body_text (Way refs) = codes " N" ++ join_with_byte 44 (map ref_text refs)
+body_text (Relation members) = codes " M" ++ join_with_byte 44 (map member_text members)
 
--- the line of a plain node: n and the id, the fields that are always written, the place, and a newline
+-- the line of an item: its kind and id, its metadata, its tags, the fields of its kind, and a newline
 abbrev pub line_text : ItemValue → List ℕ
 line_text item =
-    codes "n" ++ signed_decimal item.entity.id ++ codes " v0 dV c0 t i0 u T" ++ body_text item.entity.body ++ codes "\n"
+    kind_letter (kind_of item.entity.body) ∷ signed_decimal item.entity.id
+    ++ codes " v" ++ decimal item.entity.version
+    ++ codes " d" ++ act_text item.act
+    ++ codes " c" ++ decimal item.entity.changeset
+    ++ codes " t" ++ time_field item.entity.time
+    ++ codes " i" ++ decimal item.entity.uid
+    ++ codes " u" ++ escaped item.entity.user
+    ++ codes " T" ++ join_with_byte 44 (map tag_text item.entity.tags)
+    ++ body_text item.entity.body
+    ++ codes "\n"
 
 -- the file of a stream: the lines of its items, whatever its end
 abbrev pub opl_text : Stream → List ℕ

@@ -1,149 +1,126 @@
-//! Cuts a line into its fields.
-//!
-//! A line is `n` and an id, a space, `x` and degrees, a space, `y` and degrees. Nothing is copied:
-//! each field is a slice of the line.
-ghost use Rattle.std.specs.Prelude.{◌≡◌, ◌≢◌, ◌≤◌, ◌*◌, ◌↔◌, ◌∷◌, [], ℤ, None, Some, Ok, Err, IfOk, IfSome, IfNone, IsSome, IsTrue, length, nat_le, nat_abs};
-ghost use Rattle.std.specs.Option.{option_map, option_and_then};
+//! Cuts a line into its fields. Nothing is copied: each field is a slice of the line.
+ghost use Rattle.std.specs.Prelude.{◌≡◌, ◌≤◌, ◌<◌, ◌↔◌, ◌∷◌, ◌==◌, [], ℤ, None, Some, Ok, Err, IfOk, IfErr, IfSome, IsUtf8, length, slice_index};
+ghost use Rattle.std.specs.List.{list_any};
+ghost use Rattle.std.specs.Result.{result_err};
+ghost use Rattle.std.specs.Str.{is_utf8};
 ghost use Rattle.osm_entity.specs.declared.kind.Flow.{Flow};
 ghost use Rattle.osm_entity.specs.declared.verdict.Cause.{Cause};
-ghost use Rattle.osm_entity.specs.Entities.{degree, place_fits};
-ghost use Rattle.osm_text.specs.Numbers.{whole, short};
-ghost use Rattle.osm_entity.specs.declared.verdict.Cause.TheVariants.{NotBuilt};
-ghost use Rattle.osm_opl_line.specs.Line.{Skipped, Bad, pieces, content_of, plain_of, plain_item, node_of, fields_of, item_of, said_by, opl_line};
+ghost use Rattle.osm_opl_line.specs.Draft.{IsRead, answer_of, fields_drafted};
+ghost use Rattle.osm_opl_line.specs.Fields.{fields_from, fields_of, fault_among, pieces};
+ghost use Rattle.osm_opl_line.specs.Item.{item_of};
+ghost use Rattle.osm_opl_line.specs.Line.{Skipped, Good, Bad, is_control, longest_line, opl_line, said_of};
 
-use osm_entity::{Cause, Flow, Kind, Place};
-use osm_text::{first_part, read_nano, read_whole};
-use std::marker::Model;
+use crate::draft::Draft;
+use crate::judging::judge;
+use crate::line::Line;
+use crate::parting::kind_of;
+use crate::pieces::next_piece;
+use osm_entity::{Cause, Flow, Kind};
+use osm_text::read_whole;
+use std::str::from_utf8;
 
-/// The fields of a line that says an item. A field is the content after its letter.
-#[derive(Debug, Drop)]
-pub struct Line<'a> {
-    pub flow: Flow,
-    pub kind: Kind,
-    pub id: i64,
-    pub v: Option<&'a [u8]>,
-    pub d: Option<&'a [u8]>,
-    pub c: Option<&'a [u8]>,
-    pub t: Option<&'a [u8]>,
-    pub i: Option<&'a [u8]>,
-    pub u: Option<&'a [u8]>,
-    /// The field `T`.
-    pub tags: Option<&'a [u8]>,
-    pub x: Option<&'a [u8]>,
-    pub y: Option<&'a [u8]>,
-    /// The field `N` of a way, or `M` of a relation.
-    pub list: Option<&'a [u8]>,
-    /// What `x` and `y` say. They are read once, when the line is cut.
-    pub(crate) place: Place,
-}
-
-impl<'a> Model for Line<'a> {
-    ghost use Rattle.osm_opl_line.specs.Line.{Fields};
-
-    ghost Value = { Fields };
-
-    ghost use Rattle.osm_opl_line.specs.Cut.{fields_seen, IsCut};
-
-    ghost view = { fields_seen };
-
-    ghost invariant = { IsCut };
-}
+/// The most bytes of a line.
+const LONGEST_LINE: usize = 16_777_216;
 
 /// Cuts a line of an OPL file of this flow into its fields, which are slices of the line.
-/// `None` where the line says nothing, and the cause where it is bad. It takes no memory.
+/// `None` exactly where the line is skipped: it is empty, holds only spaces and tabs, or begins
+/// with `#`. The cause where it is bad, the first in the order of the format. It takes no memory.
 pub fn cut_line(line: &[u8], flow: Flow) -> Result<Option<Line<'_>>, Cause>
     ensures skipped { result ≡ Ok None ↔ opl_line flow line.now ≡ Skipped }
     ensures fields { IfOk result (λ o. IfSome o (λ l. fields_of flow (pieces line.now) ≡ Some l)) }
+    ensures good { IfOk result (λ o. IfSome o (λ l. opl_line flow line.now ≡ Good (item_of l))) }
     ensures refused { (cause : Cause) → result ≡ Err cause ↔ opl_line flow line.now ≡ Bad cause }
 {
-    match plain_line(line, flow) {
-        Some(line) => Ok(Some(line)),
-        None => Err(Cause::NotBuilt),
+    cut(line, flow)
+}
+
+// The same, with all that it answers in one equation.
+fn cut(line: &[u8], flow: Flow) -> Result<Option<Line<'_>>, Cause>
+    ensures value { answer_of result ≡ opl_line flow line.now }
+    ensures fields { IfOk result (λ o. IfSome o (λ l. fields_of flow (pieces line.now) ≡ Some l)) }
+{
+    if line.len() > LONGEST_LINE {
+        return Err(Cause::LineTooLong);
+    }
+    if begins_with_hash(line) {
+        return Ok(None);
+    }
+    let Some((letter, id, rest)) = next_piece(line) else {
+        return Ok(None);
+    };
+    if !is_text(line) {
+        return Err(Cause::BadText);
+    }
+    if has_control(line) {
+        return Err(Cause::BadField);
+    }
+    match cut_pieces(flow, letter, id, rest) {
+        Ok(line) => Ok(Some(line)),
+        Err(cause) => Err(cause),
     }
 }
 
-// The line, where it says a plain node.
-fn plain_line(line: &[u8], flow: Flow) -> Option<Line<'_>>
-    ensures some { IfSome result (λ l. fields_of flow (pieces line.now) ≡ Some l) }
-    ensures good { IfSome result (λ l. IsSome (item_of l)) }
-    ensures none { IfNone result (opl_line flow line.now ≡ Bad NotBuilt) }
+// Such a line is a comment.
+fn begins_with_hash(line: &[u8]) -> bool
+    ensures { result ≡ (slice_index line.now 0 == 35) }
 {
-    let (first, second, third) = three_pieces(line)?;
-    let id = content(first, b'n')?;
-    let x = content(second, b'x')?;
-    let y = content(third, b'y')?;
-    line_of(flow, id, x, y)
+    matches!(line, [b'#', ..])
 }
 
-// The pieces of a line, where it has just three.
-fn three_pieces(line: &[u8]) -> Option<(&[u8], &[u8], &[u8])>
-    ensures some { IfSome result (λ p. pieces line.now ≡ p.0.now ∷ p.1.now ∷ p.2.now ∷ []) }
-    ensures none { IfNone result (length (pieces line.now) ≢ 3) }
+// Whether the line is UTF-8.
+fn is_text(line: &[u8]) -> bool
+    ensures { result ≡ is_utf8 line.now }
 {
-    let (first, rest) = first_part(line, b' ')?;
-    let (second, third) = first_part(rest, b' ')?;
-    match first_part(third, b' ') {
-        Some(_) => None,
-        None => Some((first, second, third)),
+    from_utf8(line).is_ok()
+}
+
+// Whether there is a byte below 32 that is no tab. Since there is hardly ever one, all bytes are
+// looked at, which takes less than to stop at the first.
+fn has_control(line: &[u8]) -> bool
+    ensures { result ≡ list_any is_control line.now }
+{
+    let mut found = false;
+    for byte in line {
+        found |= *byte < 32 && *byte != b'\t';
     }
+    found
 }
 
-// What follows the letter, where the piece begins with it.
-fn content(piece: &[u8], letter: u8) -> Option<&[u8]>
-    ensures { option_map (λ s. s.now) result ≡ content_of letter piece.now }
+// Cuts a line whose first piece is a letter and an id.
+fn cut_pieces<'a>(flow: Flow, letter: u8, id: &[u8], rest: &'a [u8]) -> Result<Line<'a>, Cause>
+    requires short { length rest.now ≤ longest_line }
+    requires utf8 { letter < 128 → IsUtf8 rest.now }
+    ensures fields { IfOk result (λ l.
+        fields_of flow ((letter ∷ id.now) ∷ pieces rest.now) ≡ Some l) }
+    ensures good { IfOk result (λ l.
+        said_of flow ((letter ∷ id.now) ∷ pieces rest.now) ≡ Good (item_of l)) }
+    ensures refused { IfErr result (λ cause.
+        said_of flow ((letter ∷ id.now) ∷ pieces rest.now) ≡ Bad cause) }
 {
-    match piece {
-        [first, rest @ ..] if *first == letter => Some(rest),
-        _ => None,
+    let Some(kind) = kind_of(letter) else {
+        return Err(Cause::BadField);
+    };
+    let Ok(id) = read_whole(id) else {
+        return Err(Cause::BadNumber);
+    };
+    let draft = take_fields(kind, rest)?;
+    judge(draft, flow, kind, id)
+}
+
+// Takes the fields of an entity of this kind, or gives the first fault.
+fn take_fields(kind: Kind, bytes: &[u8]) -> Result<Draft<'_>, Cause>
+    requires short { length bytes.now ≤ longest_line }
+    requires utf8 { IsUtf8 bytes.now }
+    ensures refused { result_err result ≡ fault_among kind [] (pieces bytes.now) }
+    ensures fields { IfOk result (λ draft. (flow : Flow) (id : ℤ) →
+        fields_from flow kind id (pieces bytes.now) ≡ fields_drafted flow kind id draft) }
+    ensures read { IfOk result IsRead }
+{
+    let mut draft = Draft::new();
+    let mut rest = bytes;
+    while let Some((letter, content, more)) = next_piece(rest) {
+        draft.take(kind, letter, content)?;
+        rest = more;
     }
-}
-
-// The line of a node with these fields, where they are numbers, and the place is within range.
-fn line_of<'a>(flow: Flow, id: &[u8], x: &'a [u8], y: &'a [u8]) -> Option<Line<'a>>
-    ensures some { IfSome result (λ l. plain_of flow x.now y.now (whole id.now) ≡ Some l) }
-    ensures good { IfSome result (λ l. IsSome (item_of l)) }
-    ensures none { IfNone result
-        (said_by (option_and_then item_of (plain_of flow x.now y.now (whole id.now)))
-        ≡ Bad NotBuilt) }
-{
-    let place = read_place(x, y)?;
-    match read_whole(id) {
-        Ok(id) => Some(Line {
-            flow,
-            kind: Kind::Node,
-            id,
-            v: None,
-            d: None,
-            c: None,
-            t: None,
-            i: None,
-            u: None,
-            tags: None,
-            x: Some(x),
-            y: Some(y),
-            list: None,
-            place,
-        }),
-        Err(_) => None,
-    }
-}
-
-// The place of these degrees, where they are short numbers within 180 and 90.
-fn read_place(x: &[u8], y: &[u8]) -> Option<Place>
-    ensures value { (flow : Flow) (id : ℤ) → node_of flow id (short x.now) (short y.now)
-        ≡ option_map (plain_item flow id) result }
-    ensures fits { IfSome result (λ p. IsTrue (place_fits p)) }
-{
-    match (read_nano(x), read_nano(y)) {
-        (Ok(lon), Ok(lat)) if is_within(lon, 180) && is_within(lat, 90) => Some(Place { lon, lat }),
-        _ => None,
-    }
-}
-
-// At most so many degrees in size.
-fn is_within(nanos: i64, degrees: u64) -> bool
-    requires { degrees ≤ 180 }
-    ensures { result ≡ nat_le (nat_abs nanos) (degrees * degree) }
-{
-    nanos.unsigned_abs() <= degrees * 1_000_000_000
+    Ok(draft)
 }

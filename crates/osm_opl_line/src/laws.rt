@@ -1,21 +1,21 @@
-//! Laws over what lines say.
-ghost use Rattle.std.specs.Prelude.{◌≡◌, ◌++◌, ℤ, FitsSigned, IsTrue, codes};
-ghost use Rattle.std.specs.Fmt.{signed_decimal};
-ghost use Rattle.std.specs.Int.{w64};
-ghost use Rattle.osm_entity.specs.Entities.{place_fits};
-ghost use Rattle.osm_entity.specs.declared.kind.Flow.TheVariants.{Entities};
-ghost use Rattle.osm_entity.specs.declared.parts.Place.{Place};
-ghost use Rattle.osm_opl_line.specs.Line.{Good, opl_line, plain_item};
-ghost use Rattle.osm_opl_line.specs.Writing.{place_text};
+//! Laws over what files say.
+ghost use Rattle.std.specs.Prelude.{◌≡◌, All, true};
+ghost use Rattle.osm_entity.specs.Streams.{Stream};
+ghost use Rattle.osm_entity.specs.declared.kind.Flow.{Flow};
+ghost use Rattle.osm_opl_line.specs.Reading.{Whole, opl_reading};
+ghost use Rattle.osm_opl_line.specs.Writable.{IsWritable};
+ghost use Rattle.osm_opl_line.specs.Writing.{opl_text};
 
-use osm_text::{short_reads_back, whole_reads_back};
+use osm_text::{escaped_reads_back, nano_reads_back, time_reads_back, whole_reads_back};
 
-/// The line of an id and a place, with no other field, says that node in an entity file.
-pub fn plain_lines_read_back()
-    ensures { (id : ℤ) (place : Place) → FitsSigned w64 id → IsTrue (place_fits place)
-        → opl_line Entities (codes "n" ++ signed_decimal id ++ place_text place)
-        ≡ Good (plain_item Entities id place) }
+/// For every stream of this flow whose items keep what items keep, the file of the stream reads
+/// back as its items.
+pub fn files_read_back()
+    ensures { (flow : Flow) (s : Stream) → All (IsWritable flow) s.items
+        → opl_reading flow (opl_text s) true ≡ record { items = s.items; ending = Whole } }
 {
     whole_reads_back();
-    short_reads_back();
+    nano_reads_back();
+    time_reads_back();
+    escaped_reads_back();
 }

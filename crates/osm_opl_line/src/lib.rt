@@ -1,19 +1,26 @@
 //! Lines of OPL files, both ways: the item of a line, and the line of an item.
 //!
-//! A line is cut into the fields that stand between its spaces, which are slices of it, and the
-//! fields say an item. The other way an item is appended as a line, all lines in one form. A file
-//! is read line by line up to its first bad one.
+//! A line is cut into the fields that stand between its spaces and tabs, which are slices of it,
+//! and the fields say an item. The other way an item is appended as a line, all lines in one form.
 #![tactic(auto)]
 
+mod contents;
 mod cutting;
+mod draft;
+mod judging;
 mod laws;
+mod line;
 mod making;
+mod parting;
+mod pieces;
 mod reading;
 #[cfg(test)]
 mod tests;
+mod weighing;
 mod writing;
 
-pub use cutting::{Line, cut_line};
-pub use laws::plain_lines_read_back;
-pub use reading::{ReadEnding, ReadItems, read_lines_of};
+pub use cutting::cut_line;
+pub use laws::files_read_back;
+pub use line::Line;
+pub use reading::{LineRead, read_line};
 pub use writing::write_line;

@@ -1,31 +1,192 @@
 //! Makes the item that the fields of a line say.
-ghost use Rattle.std.specs.Prelude.{◌≡◌, Some, IfOk};
-ghost use Rattle.osm_opl_line.specs.Line.{item_of};
+//!
+//! No field has a fault, which was looked at when the line was cut, so only memory can be wanted.
+ghost use Rattle.std.specs.Prelude.{◌≡◌, ◌==◌, [], IfOk, IsOk, IsUtf8, List, Ok, Result, length, ℕ};
+ghost use Rattle.std.specs.List.{slice_split};
+ghost use Rattle.std.specs.Option.{option_map};
+ghost use Rattle.osm_entity.specs.declared.verdict.Cause.{Cause};
+ghost use Rattle.osm_opl_line.specs.Contents.{all_in, member_in, parts_of, ref_in, tag_in, text_in};
+ghost use Rattle.osm_opl_line.specs.Cut.{IsFine};
+ghost use Rattle.osm_opl_line.specs.Item.{act_of, body_of, item_of, place_of, value_of};
 
-use crate::cutting::Line;
-use osm_entity::{Act, Body, Entity, Flow, Item, NoMemory, Tags, Text};
+use crate::line::Line;
+use crate::parting::{cut_member, cut_ref, cut_tag};
+use osm_entity::{
+    Act, Body, Entity, Flow, Item, Kind, Member, NoMemory, Place, Sequence, Tag, Text,
+};
+use osm_text::{EscapeError, first_part, read_whole, unescape};
 use std::alloc::Global;
 
 impl<'a> Line<'a> {
-    /// The item that the line says.
+    /// The item that the line says. `NoMemory` where it has no room.
     pub fn item(&self, alloc: Global) -> Result<Item, NoMemory>
-        ensures { IfOk result (λ item. item_of self.now ≡ Some item) }
+        ensures { IfOk result (λ item. item ≡ item_of self.now) }
     {
-        let act = match self.flow {
-            Flow::Entities => Act::Keep,
-            Flow::Changes => Act::Modify,
-        };
-        let place = self.place;
+        let numbers = self.numbers;
+        let user = field_text(alloc, self.u)?;
+        let tags = field_list(alloc, self.tags)?;
+        let body = self.body(alloc)?;
         let entity = Entity {
             id: self.id,
-            version: 0,
-            time: 0,
-            changeset: 0,
-            uid: 0,
-            user: Text::new(alloc),
-            tags: Tags::new(alloc),
-            body: Body::Node(Some(place)),
+            version: numbers.version,
+            time: numbers.time,
+            changeset: numbers.changeset,
+            uid: numbers.uid,
+            user,
+            tags,
+            body,
         };
+        let act = act_of(self.flow, numbers.deleted, numbers.version);
         Ok(Item { act, entity })
     }
+
+    // What is proper to the kind of the entity.
+    fn body(&self, alloc: Global) -> Result<Body, NoMemory>
+        ensures { IfOk result (λ body. body ≡ body_of self.now.kind self.now) }
+    {
+        match self.kind {
+            Kind::Node => Ok(Body::Node(place_of(self.numbers.lon, self.numbers.lat))),
+            Kind::Way => Ok(Body::Way(field_list(alloc, self.list)?)),
+            Kind::Relation => Ok(Body::Relation(field_list(alloc, self.list)?)),
+        }
+    }
+}
+
+fn act_of(flow: Flow, deleted: bool, version: u32) -> Act
+    ensures { result ≡ act_of flow deleted version }
+{
+    match flow {
+        Flow::Entities => Act::Keep,
+        Flow::Changes if deleted => Act::Delete,
+        Flow::Changes if version == 1 => Act::Create,
+        Flow::Changes => Act::Modify,
+    }
+}
+
+fn place_of(lon: Option<i64>, lat: Option<i64>) -> Option<Place>
+    ensures { result ≡ place_of lon lat }
+{
+    match (lon, lat) {
+        (Some(lon), Some(lat)) => Some(Place { lon, lat }),
+        _ => None,
+    }
+}
+
+// The text of a field; the empty text where it is absent.
+fn field_text(alloc: Global, field: Option<&[u8]>) -> Result<Text, NoMemory>
+    requires { IsFine text_in (option_map (λ s. s.now) field) }
+    ensures { IfOk result (λ text.
+        text ≡ value_of [] text_in (option_map (λ s. s.now) field.entry)) }
+{
+    match field {
+        Some(content) => read_text(alloc, content),
+        None => Ok(Text::new(alloc)),
+    }
+}
+
+fn read_text(alloc: Global, content: &[u8]) -> Result<Text, NoMemory>
+    requires utf8 { IsUtf8 content.now }
+    requires fine { IsOk (text_in content.now) }
+    ensures { IfOk result (λ text. text_in content.now ≡ Ok text) }
+{
+    if content.is_empty() {
+        return Ok(Text::new(alloc));
+    }
+    match unescape(alloc, content) {
+        Ok(text) => Ok(text),
+        Err(EscapeError::Memory) => Err(NoMemory),
+        Err(EscapeError::BadEscape) => unreachable!(),
+    }
+}
+
+/// A value of a list: a tag, a ref or a member, each said by a part between commas.
+trait Part: Drop {
+    /// The value that a part says, or the cause why it is bad.
+    ghost says: { List ℕ → Result Self Cause };
+
+    /// The value that a part says.
+    fn read(alloc: Global, part: &[u8]) -> Result<Self, NoMemory>
+        requires utf8 { IsUtf8 part.now }
+        requires fine { IsOk (says part.now) }
+        ensures { IfOk result (λ value. says part.now ≡ Ok value) };
+}
+
+impl Part for Tag {
+    ghost says = { tag_in };
+
+    fn read(alloc: Global, part: &[u8]) -> Result<Self, NoMemory> {
+        let Some((key, value)) = cut_tag(part) else {
+            unreachable!();
+        };
+        let key = read_text(alloc, key)?;
+        let value = read_text(alloc, value)?;
+        Ok(Tag { key, value })
+    }
+}
+
+impl Part for i64 {
+    ghost says = { ref_in };
+
+    fn read(_: Global, part: &[u8]) -> Result<Self, NoMemory> {
+        let Some(id) = cut_ref(part) else {
+            unreachable!();
+        };
+        let Ok(id) = read_whole(id) else {
+            unreachable!();
+        };
+        Ok(id)
+    }
+}
+
+impl Part for Member {
+    ghost says = { member_in };
+
+    fn read(alloc: Global, part: &[u8]) -> Result<Self, NoMemory> {
+        let Some((kind, id, role)) = cut_member(part) else {
+            unreachable!();
+        };
+        let Ok(id) = read_whole(id) else {
+            unreachable!();
+        };
+        let role = read_text(alloc, role)?;
+        Ok(Member { kind, id, role })
+    }
+}
+
+// The list of a field; the empty list where it is absent.
+fn field_list<T: Part>(alloc: Global, field: Option<&[u8]>) -> Result<Sequence<T>, NoMemory>
+    requires { IsFine
+        (λ content. all_in T.says (parts_of content)) (option_map (λ s. s.now) field) }
+    ensures { IfOk result (λ list. list ≡ value_of []
+        (λ content. all_in T.says (parts_of content)) (option_map (λ s. s.now) field.entry)) }
+{
+    match field {
+        Some(content) => read_list(alloc, content),
+        None => Ok(Sequence::new(alloc)),
+    }
+}
+
+fn read_list<T: Part>(alloc: Global, content: &[u8]) -> Result<Sequence<T>, NoMemory>
+    requires utf8 { IsUtf8 content.now }
+    requires fine { IsOk (all_in T.says (parts_of content.now)) }
+    ensures { IfOk result (λ list. all_in T.says (parts_of content.now) ≡ Ok list) }
+{
+    if content.is_empty() {
+        return Ok(Sequence::new(alloc));
+    }
+    let mut list = Sequence::with_room(alloc, count_parts(content))?;
+    let mut rest = content;
+    while let Some((part, more)) = first_part(rest, b',') {
+        list.push(T::read(alloc, part)?)?;
+        rest = more;
+    }
+    list.push(T::read(alloc, rest)?)?;
+    Ok(list)
+}
+
+// How many parts stand between commas.
+fn count_parts(content: &[u8]) -> usize
+    ensures { result ≡ length (slice_split (λ b. b == 44) content.now) }
+{
+    content.iter().filter(|b| **b == b',').count() + 1
 }

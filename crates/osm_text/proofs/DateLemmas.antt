@@ -4,7 +4,7 @@ use Rattle.std.specs.Prelude.{◌&&◌, nat_le, nat_lt}
 use Rattle.std.proofs.lemmas.Bool.{and_parts, leb-true, ltb-true, lt-ltb, le-ltb}
 use Rattle.std.proofs.lemmas.Bool.Decides.{nat_tests}
 use Rattle.osm_text.specs.Times.{is_date, year_length, month_length, days_of_years, days_of_months, day_number, DateValue, next_date, date_after}
-use Rattle.osm_text.proofs.CalendarLemmas.{month_length-ge, days_of_months-before, days_of_months-later, days_of_months-more, days_of_months-year, days_of_years-later, days_of_years-more}
+use Rattle.osm_text.proofs.CalendarLemmas.{month_length-ge, days_of_months-before, days_of_months-later, days_of_months-year, days_of_years-later, days_of_years-more}
 
 -- a date that exists and has this day number
 pub record IsNumbered (year month day number : ℕ) : Type 0 where
@@ -172,22 +172,3 @@ numbered-one y m d y₂ m₂ d₂ n is is₂ =
     (λ less. let bad = earlier-month y m d m₂ d₂ n n is there less in omega arith) in
     let here : IsNumbered y m d₂ n = rw months at there in
     (omega arith, omega arith, omega (arith, is.value, here.value, is.begun, here.begun))
-
--- the date from the years and months that are over before a day
-pub numbered-parts : (years months day : ℕ) → days_of_years years ≤ day →
-    days_of_months (1970 + years) months ≤ day - days_of_years years →
-    day - days_of_years years < days_of_months (1970 + years) (months + 1) → months < 12 →
-    IsNumbered (1970 + years) (months + 1)
-    (day - days_of_years years - days_of_months (1970 + years) months + 1) day
-numbered-parts years months day past over under low =
-    let same : 1970 + years - 1970 ≡ years = omega arith in
-    let place : months + 1 - 1 ≡ months = omega arith in
-    let more = days_of_months-more (1970 + years) months in
-    record {
-      from = omega arith;
-      first = omega arith;
-      last = omega arith;
-      begun = omega arith;
-      within = omega arith;
-      value = rw (same, place) (omega arith);
-    }

@@ -13,7 +13,7 @@ use Rattle.std.proofs.lemmas.List.Splits.{slice_split-cons_no, slice_split_at}
 use Rattle.std.proofs.lemmas.List.Sums.{AllPass-from_list_all}
 use Rattle.std.proofs.lemmas.Str.{encode_ascii}
 use Rattle.osm_text.specs.Escapes.{are_hex, escape_code, escaped, escaped_byte, hex_escape, is_char, is_reserved, unescaped, unescaped_parts}
-use Rattle.osm_text.proofs.UnescapeLemmas.{nothing-before, texts-join, unescaped-char}
+use Rattle.osm_text.proofs.UnescapeLemmas.{nothing-before, texts-join}
 
 -- a hexadecimal digit has the value that it was written for
 glyph-value : (d : ℕ) → d < 16 → digit_value (digit_glyph false d) ≡ d
@@ -65,12 +65,10 @@ split-escape n rest ascii =
 unescaped-hex_escape : (n : ℕ) (rest : List ℕ) → n < 128 →
     unescaped (hex_escape n ++ rest) ≡ Some (n ∷ []) ++? unescaped rest
 unescaped-hex_escape n rest ascii =
-    let read = unescaped-char [] (digits 16 false n ++ 37 ∷ rest) (digits 16 false n) rest n
-    (split-escape n rest ascii) (sym (escape_code-digits n ascii)) in
     let same : hex_escape n ++ rest ≡ 37 ∷ (digits 16 false n ++ 37 ∷ rest) =
     ap (λ t. 37 ∷ t) (append_assoc (digits 16 false n) (37 ∷ []) rest) in
-    let alone = nothing-before (unescaped (37 ∷ (digits 16 false n ++ 37 ∷ rest))) in
-    ap unescaped same ∙ rw (alone, encode_ascii n ascii) at read
+    ap unescaped same ∙
+    rw (split-escape n rest ascii, escape_code-digits n ascii, encode_ascii n ascii) (nothing-before _)
 
 -- a byte before the first part is read before all
 parts-onto_first : (b : ℕ) (text : List ℕ) (parts : List (List ℕ)) → unescaped_parts parts ≡ Some text →

@@ -7,8 +7,9 @@ mod EscapeLemmas
 mod FormLemmas
 mod FractionLemmas
 mod KeptLemmas
+mod LibraryLemmas
 mod NanoLemmas
 mod ReadBackLemmas
-mod ShortLemmas
 mod TimeLemmas
 mod UnescapeLemmas
+mod UnescapedLengthLemmas

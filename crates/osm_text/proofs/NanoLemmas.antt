@@ -1,26 +1,31 @@
--- Plain texts among the nano numbers: digits, and perhaps a point and digits.
-use Rattle.std.proofs.Common.{◌≡◌, ◌<◌, ◌≤◌, ◌+◌, ◌-◌, ◌*◌, ◌/◌, ◌%◌, ◌^◌, ◌++◌, ◌∷◌, ◌==◌, ℕ, ℤ, pos, negsuc, suc, zero, Bool, true, false, List, [], length, decimal, None, Some, refl, arith, ap, sym, ◌∙◌}
-use Rattle.std.specs.Prelude.{Result, Ok, Err, if◌then◌else◌, nat_abs, nat_le, nat_lt, ◌&&◌}
+-- Texts without an exponent among the nano numbers: digits, and perhaps a point and digits.
+use Rattle.std.proofs.Common.{◌≡◌, ◌<◌, ◌≤◌, ◌+◌, ◌-◌, ◌*◌, ◌/◌, ◌%◌, ◌^◌, ◌++◌, ◌∷◌, ◌==◌, ℕ, ℤ, pos, negsuc, suc, zero, Bool, true, false, List, [], length, take, drop, get_or, decimal, Option, None, Some, IfSome, refl, arith, ap, sym, ◌∙◌, add-one, inl, inr}
+use Rattle.std.specs.Prelude.{nat_abs, nat_le, nat_lt, ◌&&◌}
 use Rattle.std.specs.Char.{is_digit, digit_value}
-use Rattle.std.specs.List.{list_all, position_or_len, before_first, after_first, slice_split}
-use Rattle.std.specs.Result.{is_ok, result_ok}
+use Rattle.std.specs.List.{list_all, position_or_len, before_first, after_first}
 use Rattle.std.specs.Str.Parse.{digits_value, digits_value_after}
-use Rattle.std.proofs.Math.Nat.{pow-suc, mul-div_cancel, mul-le-mul_right, div-eq_of_lt, mod-eq_of_lt}
-use Rattle.std.proofs.Math.Seq.{take-append_seam, drop-append-add}
-use Rattle.std.proofs.lemmas.Bool.{and_parts, lt-ltb, le-ltb, le-leb, ltb-true, leb-true, ne_eqb}
+use Rattle.std.proofs.Math.Nat.{pow-suc, mul-div_cancel}
+use Rattle.std.proofs.Math.Seq.{drop-cons, take-append_seam, drop-append-add}
+use Rattle.std.proofs.lemmas.Bool.{and_parts, cases_lt, eqb-true, lt-ltb, le-ltb, le-leb, ltb-true, leb-true, ne_eqb}
 use Rattle.std.proofs.lemmas.Bool.Decides.{nat_tests}
 use Rattle.std.proofs.lemmas.Nat.{pow-add}
-use Rattle.std.proofs.lemmas.Fmt.{digits_decimal, digits_value-decimal, decimal_digit, decimal_nonempty, length-decimal-le}
-use Rattle.std.proofs.lemmas.List.{append-nil, drop_all, length-append, take_all}
+use Rattle.std.proofs.lemmas.Fmt.{digits_decimal, digits_value-decimal, decimal_nonempty, length-decimal-le}
+use Rattle.std.proofs.lemmas.List.{append-nil, drop_all, length-append, take-append-drop, take_all}
 use Rattle.std.proofs.lemmas.List.Folds.{list_all-append}
-use Rattle.std.proofs.lemmas.List.Splits.{join_with_byte-slice_split}
-use Rattle.std.proofs.lemmas.Str.Parse.{digits_value_short}
+use Rattle.std.proofs.lemmas.List.Sums.{passes_at_first}
 use Rattle.osm_text.specs.Nano.{is_letter, is_point, limited, moved, nano, nano_moved, nano_size, without_sign}
-use Rattle.osm_text.specs.Numbers.{are_digits, fraction_text, has_minus, nano_text, nanos, nine_digits, short, short_parts, signed, trimmed, unsigned_part}
+use Rattle.osm_text.specs.Numbers.{are_digits, fraction_text, has_minus, nano_text, nine_digits, signed, trimmed, unsigned_part}
 use Rattle.osm_text.proofs.DegreesLemmas.{digits_value_after-append, pow-some}
 use Rattle.osm_text.proofs.DigitsLemmas.{digits_model, list_all-are_digits}
-use Rattle.osm_text.proofs.ReadBackLemmas.{short-nano_text}
-use Rattle.osm_text.proofs.ShortLemmas.{digit-no_point, short_parts-two}
+use Rattle.osm_text.proofs.ReadBackLemmas.{digits-no_minus, trimmed-digits, trimmed-value}
+
+-- degrees as digits before and after the point, in nanodegrees: the tenth part of a digit's worth for each place
+abbrev nanos : List ℕ → List ℕ → ℕ
+nanos before after = digits_value 10 before * 10 ^ 9 + digits_value 10 after * 10 ^ (9 - length after)
+
+-- a digit is no point
+digit-no_point : (c : ℕ) → is_digit c 10 ≡ true → is_point c ≡ false
+digit-no_point c digit = grind (arith, nat_tests)
 
 -- a digit is no letter of an exponent
 digit-no_letter : (c : ℕ) → is_digit c 10 ≡ true → is_letter c ≡ false
@@ -154,12 +159,6 @@ nano-at : (minus : Bool) (bytes digits rest : List ℕ) (n : ℕ) → has_minus 
 nano-at minus bytes digits rest n sign is some each size within =
     rw (without_sign-digits minus bytes digits rest sign is some each, size, limited-within n within, sign)
 
--- what a test kept of a signed number
-kept_signed : (test : Bool) (value z : ℤ) → (if test then Some value else None) ≡ Some z →
-    (value ≡ z) × (test ≡ true)
-kept_signed true value z is = (cc, refl)
-kept_signed false value z is = cc
-
 -- how many digits there are
 are_digits-length : (most : ℕ) (digits : List ℕ) → are_digits most digits ≡ true →
     (0 < length digits) × (length digits ≤ most)
@@ -169,87 +168,41 @@ are_digits-length most digits are =
     let both = and_parts (nat_lt 0 (length digits)) (nat_le (length digits) most) first in
     (ltb-true 0 (length digits) both.0, leb-true (length digits) most both.1)
 
--- three digits and nine decimals stay within the limit
-nanos-within : (before after : List ℕ) → length before ≤ 3 → length after ≤ 9 →
-    list_all (λ c. is_digit c 10) before ≡ true → list_all (λ c. is_digit c 10) after ≡ true →
-    nanos before after ≤ 10 ^ 18
-nanos-within before after three nine front back =
-    let high : digits_value 10 before < 10 ^ 3 = digits_value_short digits_model before 3 front three in
-    let low : digits_value 10 after < 10 ^ length after =
-    digits_value_short digits_model after (length after) back (omega arith) in
-    let split = nine-places (length after) nine in
-    let room : digits_value 10 after * 10 ^ (9 - length after) ≤ 10 ^ length after * 10 ^ (9 - length after) =
-    mul-le-mul_right (10 ^ (9 - length after)) (omega arith) in
-    omega arith
+-- the size of short degrees, by the digits before and after their point
+nano_size-short : (text before after : List ℕ) → before_first is_point text ≡ before →
+    after_first is_point text ≡ after → are_digits 9 before ≡ true → list_all (λ c. is_digit c 10) after ≡ true →
+    length after ≤ 9 → nano_size text ≡ limited (nanos before after)
+nano_size-short text before after first past digits back places =
+    let size = are_digits-length 9 before digits in
+    let front = list_all-are_digits 9 before digits in
+    elim (cases_lt (position_or_len is_point text) (length text)) [
+      | inl within ↦
+          let point : get_or text (position_or_len is_point text) 0 ≡ 46 =
+          eqb-true _ 46 (passes_at_first is_point text 0 within) in
+          let tail : drop (suc (position_or_len is_point text)) text ≡ after = rw add-one at past in
+          let rest : drop (position_or_len is_point text) text ≡ 46 ∷ after =
+          drop-cons text (position_or_len is_point text) 0 within ∙ rw point (ap (λ t. 46 ∷ t) tail) in
+          let whole : text ≡ before ++ 46 ∷ after =
+          sym (take-append-drop (position_or_len is_point text) text) ∙ rw (first, rest) refl in
+          rw whole (nano_size-pointed before after size.0 (omega arith) places front back)
+      | inr end ↦
+          let whole : text ≡ before =
+          sym (take_all (position_or_len is_point text) text (omega arith)) ∙ first in
+          let none : after ≡ [] =
+          sym past ∙ drop_all (position_or_len is_point text + 1) text (omega arith) in
+          rw (whole, none) (nano_size-digits before size.0 (omega arith) front)
+    ]
 
--- the parts of a short number are those of a nano number
-nano-parts : (minus : Bool) (bytes unsigned : List ℕ) (parts : List (List ℕ)) (z : ℤ) → has_minus bytes ≡ minus →
-    unsigned_part bytes ≡ unsigned → slice_split (λ b. b == 46) unsigned ≡ parts → short_parts minus parts ≡ Some z →
-    nano bytes ≡ Some z
-nano-parts minus bytes unsigned [] z sign rest split is = cc
-nano-parts minus bytes unsigned (before ∷ []) z sign rest split is =
-    let whole : before ≡ unsigned = rw split at (join_with_byte-slice_split 46 unsigned) in
-    let kept = kept_signed (are_digits 3 before) (signed minus (nanos before [])) z is in
-    let each = list_all-are_digits 3 before kept.1 in
-    let size = are_digits-length 3 before kept.1 in
-    nano-at minus bytes before [] (nanos before []) sign (rw (append-nil before, whole) rest) size.0 each
-    (rw append-nil (nano_size-digits before size.0 (omega arith) each))
-    (nanos-within before [] size.1 (omega arith) each refl) ∙ ap (λ x. Some x) kept.0
-nano-parts minus bytes unsigned (before ∷ after ∷ []) z sign rest split is =
-    let whole : before ++ 46 ∷ after ≡ unsigned = rw split at (join_with_byte-slice_split 46 unsigned) in
-    let kept = kept_signed (are_digits 3 before && are_digits 9 after) (signed minus (nanos before after)) z is in
-    let both = and_parts (are_digits 3 before) (are_digits 9 after) kept.1 in
-    let front = list_all-are_digits 3 before both.0 in
-    let back = list_all-are_digits 9 after both.1 in
-    let size = are_digits-length 3 before both.0 in
-    let places = are_digits-length 9 after both.1 in
-    nano-at minus bytes before (46 ∷ after) (nanos before after) sign (rw whole rest) size.0 front
-    (nano_size-pointed before after size.0 (omega arith) places.1 front back)
-    (nanos-within before after size.1 places.1 front back) ∙ ap (λ x. Some x) kept.0
-nano-parts minus bytes unsigned (before ∷ after ∷ more ∷ parts) z sign rest split is = cc
-
--- a short number is a nano number of the same value
-pub nano-short : (bytes : List ℕ) (z : ℤ) → short bytes ≡ Some z → nano bytes ≡ Some z
-nano-short bytes z is =
-    nano-parts (has_minus bytes) bytes (unsigned_part bytes) (slice_split (λ b. b == 46) (unsigned_part bytes)) z
-    refl refl refl is
-
--- what was read as a short number is the nano number
-pub nano-short_read : {E : Type 0} (bytes : List ℕ) (read : Result ℤ E) → is_ok read ≡ true →
-    result_ok read ≡ short bytes → result_ok read ≡ nano bytes
-nano-short_read bytes (Ok z) ok is = sym (nano-short bytes z (sym is))
-nano-short_read bytes (Err e) ok is = cc
-
--- the digits after a point whose short number is so many nanodegrees
-fraction-after : (n : ℕ) (after : List ℕ) → short (48 ∷ 46 ∷ after) ≡ Some (pos n) →
-    (are_digits 9 after ≡ true) × (digits_value 10 after * 10 ^ (9 - length after) ≡ n)
-fraction-after n after is =
-    let parts = short_parts-two false (48 ∷ []) after in
-    let kept = kept_signed (are_digits 9 after) (pos (nanos (48 ∷ []) after)) (pos n) (sym parts ∙ is) in
-    let same : nanos (48 ∷ []) after ≡ n = cc (kept.0) in
-    (kept.1, omega (arith, same))
-
--- the digits of a written fraction are read as it
-fraction-read : (n : ℕ) → 0 < n → n < 10 ^ 9 →
-    (are_digits 9 (trimmed (nine_digits n)) ≡ true) ×
-    (digits_value 10 (trimmed (nine_digits n)) * 10 ^ (9 - length (trimmed (nine_digits n))) ≡ n)
-fraction-read n some small =
-    let text = short-nano_text (pos n) (omega arith) in
-    fraction-after n (trimmed (nine_digits n))
-    (rw (
-      le-ltb n 0 (omega arith),
-      div-eq_of_lt small,
-      mod-eq_of_lt small,
-      ne_eqb n 0 (λ is. omega arith),
-      decimal_digit 0 (omega arith),
-    ) at text)
-
--- digits begin with no minus
-digits-no_minus : (digits rest : List ℕ) → 0 < length digits → list_all (λ c. is_digit c 10) digits ≡ true →
-    has_minus (digits ++ rest) ≡ false
-digits-no_minus [] rest some each = absurd (omega arith)
-digits-no_minus (c ∷ cs) rest some each =
-    (digit-no_sign c (and_parts (is_digit c 10) (list_all (λ c. is_digit c 10) cs) each).0).0
+-- what was read as short degrees is the size
+pub nano_size-short_read : (text after : List ℕ) (at : ℕ) (read : Option ℕ) → at ≡ position_or_len is_point text →
+    after ≡ drop (at + 1) text → IfSome read (λ n. n ≡ nanos (take at text) after) →
+    IfSome read (λ _. are_digits 9 (take at text) ≡ true) →
+    IfSome read (λ _. list_all (λ c. is_digit c 10) after ≡ true) → IfSome read (λ _. length after ≤ 9) →
+    IfSome read (λ n. n < 10 ^ 18) → IfSome read (λ n. Some n ≡ nano_size text)
+nano_size-short_read text after at None place past value digits back places small = tt
+nano_size-short_read text after at (Some n) place past value digits back places small =
+    let size = nano_size-short text (take at text) after (rw place refl) (rw (past, place) refl) digits back places in
+    sym (size ∙ rw (← value) (limited-within n (omega (arith, small))))
 
 -- what is written of degrees and a fraction, after its sign
 nano-written : (minus : Bool) (bytes : List ℕ) (degrees rest : ℕ) → degrees ≤ 10 ^ 9 → rest < 10 ^ 9 →
@@ -269,13 +222,13 @@ nano-written minus bytes degrees (suc k) high low within sign is =
     let value : digits_value 10 (decimal degrees) ≡ degrees = digits_value-decimal digits_model degrees (omega arith) in
     let some = decimal_nonempty degrees (omega arith) in
     let few = length-decimal-le 10 degrees (omega arith) (omega arith) (omega arith) in
-    let read = fraction-read (suc k) (omega arith) low in
-    let places = are_digits-length 9 (trimmed (nine_digits (suc k))) read.0 in
+    let fraction = trimmed-digits (suc k) (omega arith) low in
+    let places = are_digits-length 9 (trimmed (nine_digits (suc k))) fraction in
     let size = nano_size-pointed (decimal degrees) (trimmed (nine_digits (suc k))) some (omega arith) places.1 digits
-    (list_all-are_digits 9 (trimmed (nine_digits (suc k))) read.0) in
+    (list_all-are_digits 9 (trimmed (nine_digits (suc k))) fraction) in
     nano-at minus bytes (decimal degrees) (46 ∷ trimmed (nine_digits (suc k))) (degrees * 10 ^ 9 + suc k) sign
     (rw (ne_eqb (suc k) 0 (λ is. omega arith)) at is) some digits
-    (rw (value, read.1) at size) within
+    (rw (value, trimmed-value (suc k) low) at size) within
 
 -- the text of nanodegrees up to 10^18 reads back
 pub nano-nano_text : (z : ℤ) → nat_abs z ≤ 10 ^ 18 → nano (nano_text z) ≡ Some z

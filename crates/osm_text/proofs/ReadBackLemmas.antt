@@ -1,25 +1,23 @@
--- Written numbers read back.
-use Rattle.std.proofs.Common.{◌≡◌, ◌<◌, ◌≤◌, ◌+◌, ◌-◌, ◌*◌, ◌/◌, ◌%◌, ◌^◌, ◌==◌, ◌∷◌, ◌++◌, ℕ, ℤ, pos, negsuc, suc, zero, Bool, true, false, List, [], length, take, get_or, replicate, reverse, decimal, Some, refl, arith, ap, sym, ◌∙◌}
-use Rattle.std.specs.Prelude.{FitsSigned, nat_abs}
+-- Written whole numbers read back, and the digits of a fraction.
+use Rattle.std.proofs.Common.{◌≡◌, ◌<◌, ◌≤◌, ◌+◌, ◌-◌, ◌*◌, ◌^◌, ◌==◌, ◌∷◌, ◌++◌, ℕ, ℤ, pos, negsuc, suc, zero, Bool, true, false, List, [], length, take, get_or, replicate, reverse, decimal, Some, refl, arith, ap, sym, ◌∙◌}
+use Rattle.std.specs.Prelude.{FitsSigned}
 use Rattle.std.specs.Fmt.{signed_decimal}
 use Rattle.std.specs.Int.{w64}
 use Rattle.std.specs.Char.{is_digit}
-use Rattle.std.specs.List.{list_all, slice_split, suffix_len}
+use Rattle.std.specs.List.{list_all, suffix_len}
 use Rattle.std.specs.Str.Parse.{digits_value}
 use Rattle.std.proofs.Math.Nat.{pow-suc}
-use Rattle.std.proofs.lemmas.Bool.{and_parts, lt-ltb, le-ltb, le-leb, eqb-true, ne_eqb}
+use Rattle.std.proofs.lemmas.Bool.{and_parts, lt-ltb, le-leb, eqb-true}
 use Rattle.std.proofs.lemmas.Bool.Decides.{nat_tests}
-use Rattle.std.proofs.lemmas.Fmt.{digits_decimal, digits_value-decimal, decimal_nonempty, length-decimal-le}
+use Rattle.std.proofs.lemmas.Fmt.{digits_decimal, digits_value-decimal, decimal_nonempty}
 use Rattle.std.proofs.lemmas.Int.Digits.{digits_value_more}
 use Rattle.std.proofs.lemmas.List.{append-nil, get_or-reverse, take_all, length-take-le}
 use Rattle.std.proofs.lemmas.List.Elements.{All-take}
 use Rattle.std.proofs.lemmas.List.Folds.{list_all-append}
-use Rattle.std.proofs.lemmas.List.Splits.{slice_split_at}
 use Rattle.std.proofs.lemmas.List.Sums.{AllPass-from_list_all, list_all-from_AllPass, prefix_len_passes, suffix_len-le-length}
-use Rattle.osm_text.specs.Numbers.{are_digits, fraction_text, has_minus, nano_text, nine_digits, short, short_parts, signed, size_fits, trimmed, unsigned_part, whole}
+use Rattle.osm_text.specs.Numbers.{are_digits, has_minus, nine_digits, signed, size_fits, trimmed, unsigned_part, whole}
 use Rattle.osm_text.proofs.DigitsLemmas.{digits_model}
 use Rattle.osm_text.proofs.FractionLemmas.{length-nine_digits}
-use Rattle.osm_text.proofs.ShortLemmas.{digit-no_point, short_parts-two, split-digits}
 
 -- what is written of a number are digits
 decimal-digits : (n : ℕ) → n < 2 ^ 64 → list_all (λ c. is_digit c 10) (decimal n) ≡ true
@@ -40,7 +38,7 @@ digit-no_minus : (c : ℕ) → is_digit c 10 ≡ true → (c == 45) ≡ false
 digit-no_minus c digit = grind (arith, nat_tests)
 
 -- a text that begins with a digit has no minus
-digits-no_minus : (digits rest : List ℕ) → 0 < length digits → list_all (λ c. is_digit c 10) digits ≡ true →
+pub digits-no_minus : (digits rest : List ℕ) → 0 < length digits → list_all (λ c. is_digit c 10) digits ≡ true →
     has_minus (digits ++ rest) ≡ false
 digits-no_minus [] rest some each = absurd (omega arith)
 digits-no_minus (c ∷ cs) rest some each =
@@ -141,7 +139,7 @@ length-trimmed n small =
     omega arith
 
 -- their value, by the place of the last, is the number
-trimmed-value : (n : ℕ) → n < 10 ^ 9 →
+pub trimmed-value : (n : ℕ) → n < 10 ^ 9 →
     digits_value 10 (trimmed (nine_digits n)) * 10 ^ (9 - length (trimmed (nine_digits n))) ≡ n
 trimmed-value n small =
     let kept = length-trimmed n small in
@@ -155,7 +153,7 @@ some-from_value [] scale n is some = absurd (omega arith)
 some-from_value (c ∷ cs) scale n is some = omega arith
 
 -- the digits of a fraction above 0, without the zeros at their end, are one to nine digits
-trimmed-digits : (n : ℕ) → 0 < n → n < 10 ^ 9 → are_digits 9 (trimmed (nine_digits n)) ≡ true
+pub trimmed-digits : (n : ℕ) → 0 < n → n < 10 ^ 9 → are_digits 9 (trimmed (nine_digits n)) ≡ true
 trimmed-digits n some small =
     let kept = length-trimmed n small in
     are_digits-from 9 (trimmed (nine_digits n))
@@ -164,62 +162,3 @@ trimmed-digits n some small =
     (omega arith)
     (list_all-take (length (nine_digits n) - suffix_len (λ c. c == 48) (nine_digits n)) (nine_digits n)
     (list_all-nine n small))
-
--- whole degrees below 1,000 have one to three digits
-degrees-digits : (n : ℕ) → n < 10 ^ 3 → are_digits 3 (decimal n) ≡ true
-degrees-digits n low =
-    are_digits-from 3 (decimal n) (decimal_nonempty n (omega arith))
-    (length-decimal-le 3 n (omega arith) low (omega arith)) (decimal-digits n (omega arith))
-
--- the parts of whole degrees and the digits after a point
-short_parts-pointed : (minus : Bool) (n rest : ℕ) (after : List ℕ) → n < 10 ^ 3 → are_digits 9 after ≡ true →
-    digits_value 10 after * 10 ^ (9 - length after) ≡ rest →
-    short_parts minus (slice_split (λ b. b == 46) (decimal n ++ 46 ∷ after)) ≡ Some (signed minus (n * 10 ^ 9 + rest))
-short_parts-pointed minus n rest after low digits value =
-    let none = λ (k d : ℕ) (below : k < length (decimal n)).
-    digit-no_point (get_or (decimal n) k d)
-    (AllPass-from_list_all (λ c. is_digit c 10) (decimal n) (decimal-digits n (omega arith)) k d below) in
-    rw (
-      slice_split_at (λ b. b == 46) (decimal n) 46 after none refl,
-      short_parts-two minus (decimal n) after,
-      degrees-digits n low,
-      digits,
-      decimal-value n (omega arith),
-      value,
-    )
-
--- the parts of whole degrees and a fraction
-short_parts-written : (minus : Bool) (n rest : ℕ) → n < 10 ^ 3 → rest < 10 ^ 9 →
-    short_parts minus (slice_split (λ b. b == 46) (decimal n ++ fraction_text rest)) ≡
-    Some (signed minus (n * 10 ^ 9 + rest))
-short_parts-written minus n zero low small =
-    let digits = degrees-digits n low in
-    rw (append-nil (decimal n), split-digits 3 (decimal n) digits, digits, decimal-value n (omega arith))
-short_parts-written minus n (suc k) low small =
-    rw (ne_eqb (suc k) 0 (λ is. omega arith))
-    (short_parts-pointed minus n (suc k) (trimmed (nine_digits (suc k))) low
-    (trimmed-digits (suc k) (omega arith) small)
-    (trimmed-value (suc k) small))
-
--- a short number from its sign and its parts
-short-at : (minus : Bool) (bytes body : List ℕ) (n : ℕ) → has_minus bytes ≡ minus → unsigned_part bytes ≡ body →
-    short_parts minus (slice_split (λ b. b == 46) body) ≡ Some (signed minus n) → short bytes ≡ Some (signed minus n)
-short-at minus bytes body n sign rest parts = rw (rest, sign) parts
-
--- the text of nanodegrees below 1,000 degrees reads back
-pub short-nano_text : (z : ℤ) → nat_abs z < 10 ^ 12 → short (nano_text z) ≡ Some z
-short-nano_text (pos n) small =
-    let sum : n / 10 ^ 9 * 10 ^ 9 + n % 10 ^ 9 ≡ n = omega arith in
-    let sign = digits-no_minus (decimal (n / 10 ^ 9)) (fraction_text (n % 10 ^ 9))
-    (decimal_nonempty (n / 10 ^ 9) (omega arith))
-    (decimal-digits (n / 10 ^ 9) (omega arith)) in
-    rw (le-ltb n 0 (omega arith))
-    (rw sum at (short-at false (decimal (n / 10 ^ 9) ++ fraction_text (n % 10 ^ 9))
-    (decimal (n / 10 ^ 9) ++ fraction_text (n % 10 ^ 9))
-    (n / 10 ^ 9 * 10 ^ 9 + n % 10 ^ 9) sign (rw sign)
-    (short_parts-written false (n / 10 ^ 9) (n % 10 ^ 9) (omega arith) (omega arith))))
-short-nano_text (negsuc n) small =
-    let sum : suc n / 10 ^ 9 * 10 ^ 9 + suc n % 10 ^ 9 ≡ suc n = omega arith in
-    rw sum at (short-at true (45 ∷ (decimal (suc n / 10 ^ 9) ++ fraction_text (suc n % 10 ^ 9)))
-    (decimal (suc n / 10 ^ 9) ++ fraction_text (suc n % 10 ^ 9)) (suc n / 10 ^ 9 * 10 ^ 9 + suc n % 10 ^ 9) refl refl
-    (short_parts-written true (suc n / 10 ^ 9) (suc n % 10 ^ 9) (omega arith) (omega arith)))

@@ -6,7 +6,7 @@ use Rattle.std.specs.Str.Parse.{digits_value}
 use Rattle.std.proofs.lemmas.Bool.{lt-ltb}
 use Rattle.std.proofs.lemmas.Bool.Decides.{nat_tests}
 use Rattle.osm_text.specs.Times.{clock_seconds, clock_text, date_after, date_text, existing_clock, existing_day, fitting_time, has_form, time, time_at, time_text, two_text}
-use Rattle.osm_text.proofs.CalendarLemmas.{days_of_years-closed, month_length-le}
+use Rattle.osm_text.proofs.CalendarLemmas.{days_of_years-ge, month_length-le}
 use Rattle.osm_text.proofs.DateLemmas.{IsNumbered, date_after-numbered, exists-numbered}
 
 -- a number below ten as a digit
@@ -83,7 +83,7 @@ fits t low =
 low-year : (year month day n : ℕ) → IsNumbered year month day n → n < 50000 → (year < 10000) × (day < 100)
 low-year year month day n is low =
     let days = month_length-le year month in
-    let years = days_of_years-closed (year - 1970) in
+    let years = days_of_years-ge (year - 1970) in
     (omega (arith, is.value), omega (arith, is.within))
 
 -- the text of a time reads back

@@ -92,15 +92,14 @@ unescaped-plain text plain after is =
     rw is
     (parts-plain plain (slice_split (λ b. b == 37) after) (omega (arith, length-slice_split (λ b. b == 37) after)))
 
--- between two % stands a number of a character
-pub unescaped-char : (out after code rest : List ℕ) (c : ℕ) →
-    slice_split (λ b. b == 37) after ≡ code ∷ slice_split (λ b. b == 37) rest → Some c ≡ escape_code code →
-    Some out ++? unescaped (37 ∷ after) ≡ Some (out ++ encode_utf8 c) ++? unescaped rest
-unescaped-char out after code rest c is char =
-    rw (is, ← char, nothing-before) (texts-join out (encode_utf8 c) (unescaped rest))
+-- the character of an escape is read after what was read before it
+pub unescaped-char : (out after : List ℕ) (c : ℕ) (rest new : List ℕ) →
+    unescaped (37 ∷ after) ≡ Some (encode_utf8 c) ++? unescaped rest → new ≡ out ++ encode_utf8 c →
+    Some out ++? unescaped (37 ∷ after) ≡ Some new ++? unescaped rest
+unescaped-char out after c rest new is grown = rw (is, grown) (texts-join out (encode_utf8 c) (unescaped rest))
 
 -- the parts around a first % are the text
-split-joined : (text front back : List ℕ) (parts : List (List ℕ)) → slice_split (λ b. b == 37) back ≡ parts →
+pub split-joined : (text front back : List ℕ) (parts : List (List ℕ)) → slice_split (λ b. b == 37) back ≡ parts →
     slice_split (λ b. b == 37) text ≡ front ∷ parts → text ≡ front ++ 37 ∷ back
 split-joined text front back [] rest is =
     absurd (omega (arith, length-slice_split (λ b. b == 37) back, ap length rest))

@@ -1,4 +1,5 @@
 pub mod Escapes
 pub mod Nano
 pub mod Numbers
+pub mod Moments
 pub mod Times

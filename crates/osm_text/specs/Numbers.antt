@@ -1,8 +1,8 @@
 -- Numbers as texts: whole numbers, and decimal numbers of nanodegrees.
 -- Here a text is looked at whole; the code goes through it digit by digit.
-use Rattle.std.specs.Prelude.{ℕ, ℤ, pos, neg_ℤ, nat_abs, ◌+◌, ◌-◌, ◌*◌, ◌/◌, ◌%◌, ◌^◌, List, [], ◌∷◌, ◌++◌, length, take, drop, replicate, Bool, ◌&&◌, ◌==◌, nat_lt, nat_le, int_lt, if◌then◌else◌, Option, Some, None, codes, decimal, slice_index}
+use Rattle.std.specs.Prelude.{ℕ, ℤ, pos, neg_ℤ, nat_abs, ◌-◌, ◌/◌, ◌%◌, ◌^◌, List, [], ◌∷◌, ◌++◌, length, take, drop, replicate, Bool, ◌&&◌, ◌==◌, nat_lt, nat_le, int_lt, if◌then◌else◌, Option, Some, None, codes, decimal, slice_index}
 use Rattle.std.specs.Char.{is_digit}
-use Rattle.std.specs.List.{slice_split, list_all, suffix_len}
+use Rattle.std.specs.List.{list_all, suffix_len}
 use Rattle.std.specs.Str.Parse.{digits_value}
 
 -- a text begins with a minus
@@ -35,21 +35,6 @@ whole bytes =
     if are_digits (length bytes) (unsigned_part bytes)
     then fitting (has_minus bytes) (digits_value 10 (unsigned_part bytes))
     else None
-
--- degrees as digits before and after the point, in nanodegrees: the tenth part of a digit's worth for each place
-abbrev pub nanos : List ℕ → List ℕ → ℕ
-nanos before after = digits_value 10 before * 10 ^ 9 + digits_value 10 after * 10 ^ (9 - length after)
-
--- the parts of a short number: one to three digits, and after a point one to nine
-abbrev pub short_parts : Bool → List (List ℕ) → Option ℤ
-short_parts minus (before ∷ []) = if are_digits 3 before then Some (signed minus (nanos before [])) else None
-short_parts minus (before ∷ after ∷ []) =
-    if are_digits 3 before && are_digits 9 after then Some (signed minus (nanos before after)) else None
-short_parts minus parts = None
-
--- a short number is an optional minus and the parts around its point
-abbrev pub short : List ℕ → Option ℤ
-short bytes = short_parts (has_minus bytes) (slice_split (λ b. b == 46) (unsigned_part bytes))
 
 -- digits without the zeros at their end
 abbrev pub trimmed : List ℕ → List ℕ

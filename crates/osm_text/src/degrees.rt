@@ -1,4 +1,4 @@
-//! All nano numbers: degrees as texts with a sign, a point and an exponent, as `-1.277E-1`.
+//! Reads nano numbers: degrees as texts with a sign, a point and an exponent, as `-1.277E-1`.
 ghost use Rattle.std.specs.Prelude.{◌≡◌, ◌<◌, ◌≤◌, ◌+◌, ◌*◌, ◌/◌, ◌^◌, ◌++◌, length, drop, IfNone, IfSome, true, false, if◌then◌else◌, None, Some};
 ghost use Rattle.std.specs.Char.{digit_value, is_digit};
 ghost use Rattle.std.specs.List.{list_all, position, position_or_len};
@@ -8,7 +8,7 @@ ghost use Rattle.osm_text.specs.Numbers.{are_digits, has_minus, signed};
 ghost use Rattle.osm_text.specs.Nano.{is_exponent, is_letter, is_point, limited, moved, nano, nano_moved, nano_size, places_left, places_right, without_sign};
 
 use crate::digits::read_digits;
-use crate::nano::read_nano;
+use crate::short::nanos_of;
 use crate::whole::BadNumber;
 
 /// The largest size, in nanodegrees: 10^9 degrees.
@@ -211,8 +211,17 @@ fn read_exponent(text: &[u8]) -> Option<(u32, u32)>
     }
 }
 
-/// The size of a number without its sign.
-fn size_of_nano(unsigned: &[u8]) -> Option<u64>
+/// The size of short degrees; `None` leaves it to the reading in full.
+fn size_of_short(unsigned: &[u8]) -> Option<u64>
+    ensures value { IfSome result (λ n. Some n ≡ nano_size unsigned.now) }
+    ensures size { IfSome result (λ n. n ≤ 10 ^ 18) }
+{
+    let at = point_place(unsigned);
+    nanos_of(&unsigned[..at], after_place(unsigned, at))
+}
+
+/// The size of a number with or without an exponent.
+fn size_in_full(unsigned: &[u8]) -> Option<u64>
     ensures value { result ≡ nano_size unsigned.now }
     ensures size { IfSome result (λ n. n ≤ 10 ^ 18) }
 {
@@ -224,6 +233,18 @@ fn size_of_nano(unsigned: &[u8]) -> Option<u64>
     size_of_moved(&unsigned[..at], right, left)
 }
 
+/// The size of a number without its sign.
+fn size_of_nano(unsigned: &[u8]) -> Option<u64>
+    ensures value { result ≡ nano_size unsigned.now }
+    ensures size { IfSome result (λ n. n ≤ 10 ^ 18) }
+{
+    // Nearly all texts are short degrees, which need no division.
+    match size_of_short(unsigned) {
+        Some(size) => Some(size),
+        None => size_in_full(unsigned),
+    }
+}
+
 fn with_sign(minus: bool, size: u64) -> i64
     requires { size ≤ 10 ^ 18 }
     ensures { result ≡ signed minus size }
@@ -231,7 +252,10 @@ fn with_sign(minus: bool, size: u64) -> i64
     if minus { -(size as i64) } else { size as i64 }
 }
 
-fn read_in_full(bytes: &[u8]) -> Result<i64, BadNumber>
+/// Reads degrees, as `-0.1277` or `-1.277E-1`, and gives nanodegrees, cut toward 0: an optional
+/// sign, up to 38 digits around an optional point, and an optional exponent of up to four digits.
+/// `BadNumber` exactly where the text is no such number or its size is above 10^18.
+pub fn read_nano(bytes: &[u8]) -> Result<i64, BadNumber>
     ensures { result_ok result ≡ nano bytes.now }
 {
     let (minus, unsigned) = split_sign(bytes);
@@ -239,18 +263,4 @@ fn read_in_full(bytes: &[u8]) -> Result<i64, BadNumber>
         Some(size) => Ok(with_sign(minus, size)),
         None => Err(BadNumber),
     }
-}
-
-/// Reads degrees, as `-0.1277` or `-1.277E-1`, and gives nanodegrees, cut toward 0: an optional
-/// sign, up to 38 digits around an optional point, and an optional exponent of up to four digits.
-/// `BadNumber` exactly where the text is no such number or its size is above 10^18.
-pub fn read_degrees(bytes: &[u8]) -> Result<i64, BadNumber>
-    ensures { result_ok result ≡ nano bytes.now }
-{
-    // Nearly all texts are short numbers, which need no division.
-    let short = read_nano(bytes);
-    if short.is_ok() {
-        return short;
-    }
-    read_in_full(bytes)
 }

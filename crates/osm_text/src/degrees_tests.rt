@@ -1,9 +1,17 @@
-//! Edges of degrees as texts in full. Expected values are by hand.
-use crate::{BadNumber, read_degrees};
+//! Edges of degrees as texts. Expected values are by hand.
+use crate::{BadNumber, read_nano};
 
 const BILLION_DEGREES: i64 = 1_000_000_000_000_000_000;
 
-const DEGREES: [(&str, Result<i64, BadNumber>); 54] = [
+const DEGREES: [(&str, Result<i64, BadNumber>); 62] = [
+    ("1.5", Ok(1_500_000_000)),
+    ("-0.5", Ok(-500_000_000)),
+    ("180", Ok(180_000_000_000)),
+    ("0.123456789", Ok(123_456_789)),
+    ("0.000000001", Ok(1)),
+    ("-13.3771", Ok(-13_377_100_000)),
+    ("999999999.999999999", Ok(999_999_999_999_999_999)),
+    ("1000000000", Ok(BILLION_DEGREES)),
     ("180.0000000001", Ok(180_000_000_000)),
     ("-180.0000000009", Ok(-180_000_000_000)),
     ("0.9999999999", Ok(999_999_999)),
@@ -66,6 +74,6 @@ const DEGREES: [(&str, Result<i64, BadNumber>); 54] = [
 #[test]
 fn degrees_are_read_with_a_sign_a_point_and_an_exponent(rt: HostRuntime) {
     for (text, number) in DEGREES {
-        assert_eq!(rt; read_degrees(text.as_bytes()), number, "{text}");
+        assert_eq!(rt; read_nano(text.as_bytes()), number, "{text}");
     }
 }

@@ -1,5 +1,5 @@
 //! Escaped texts, both ways. Expected values are by hand.
-use crate::{EscapeError, escape, unescape};
+use crate::{EscapeError, escape, unescape, unescaped_length};
 use osm_entity::{Bytes, Text};
 use std::test::Fail;
 
@@ -42,6 +42,8 @@ fn an_escape_stands_for_the_character_of_its_number(rt: HostRuntime) -> Result<(
     for (escaped, text) in READ {
         let read = unescape(rt.alloc(), escaped.as_bytes())?;
         assert_eq!(rt; read.as_slice(), text.as_bytes(), "{escaped}");
+        let length = unescaped_length(escaped.as_bytes());
+        assert_eq!(rt; length, Some(text.len()), "{escaped}");
     }
     Ok(())
 }
@@ -51,6 +53,7 @@ fn a_percent_without_the_number_of_a_character_is_refused(rt: HostRuntime) {
     for escaped in REFUSED {
         let refused = unescape(rt.alloc(), escaped.as_bytes()).err();
         assert_eq!(rt; refused, Some(EscapeError::BadEscape), "{escaped}");
+        assert_eq!(rt; unescaped_length(escaped.as_bytes()), None, "{escaped}");
     }
 }
 

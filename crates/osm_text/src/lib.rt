@@ -2,7 +2,6 @@
 //! escaped texts.
 #![tactic(auto)]
 
-mod calendar;
 mod cutting;
 mod degrees;
 #[cfg(test)]
@@ -15,7 +14,7 @@ mod escaping;
 mod fraction;
 mod laws;
 mod nano;
-mod nano_laws;
+mod short;
 #[cfg(test)]
 mod tests;
 mod time;
@@ -26,13 +25,12 @@ mod unescaping;
 mod whole;
 
 pub use cutting::first_part;
-pub use degrees::read_degrees;
+pub use degrees::read_nano;
 pub use escape_laws::escaped_reads_back;
 pub use escaping::escape;
-pub use laws::{short_reads_back, whole_reads_back};
-pub use nano::{read_nano, write_nano};
-pub use nano_laws::{nano_reads_back, short_is_nano};
+pub use laws::{nano_reads_back, whole_reads_back};
+pub use nano::write_nano;
 pub use time::{BadTime, read_time, write_time};
 pub use time_laws::{dates_have_their_numbers, days_follow, time_reads_back};
-pub use unescaping::{EscapeError, unescape};
+pub use unescaping::{EscapeError, unescape, unescaped_length};
 pub use whole::{BadNumber, read_whole, write_whole};

@@ -1,5 +1,5 @@
 //! Edges of numbers as texts, and written numbers with ample memory. Expected values are by hand.
-use crate::{BadNumber, first_part, read_nano, read_whole, write_nano, write_whole};
+use crate::{BadNumber, first_part, read_whole, write_nano, write_whole};
 use osm_entity::Bytes;
 use std::test::Fail;
 
@@ -19,31 +19,6 @@ const WHOLE_NUMBERS: [(&str, Result<i64, BadNumber>); 15] = [
     ("+1", Err(BadNumber)),
     (" 1", Err(BadNumber)),
     ("1a", Err(BadNumber)),
-];
-
-const SHORT_NUMBERS: [(&str, Result<i64, BadNumber>); 22] = [
-    ("1.5", Ok(1_500_000_000)),
-    ("-0.5", Ok(-500_000_000)),
-    ("180", Ok(180_000_000_000)),
-    ("-0", Ok(0)),
-    ("0.123456789", Ok(123_456_789)),
-    ("0.000000001", Ok(1)),
-    ("001", Ok(1_000_000_000)),
-    ("13.3771", Ok(13_377_100_000)),
-    ("999.999999999", Ok(999_999_999_999)),
-    ("1000", Err(BadNumber)),
-    ("0.1234567890", Err(BadNumber)),
-    (".5", Err(BadNumber)),
-    ("5.", Err(BadNumber)),
-    (".", Err(BadNumber)),
-    ("", Err(BadNumber)),
-    ("-", Err(BadNumber)),
-    ("--1", Err(BadNumber)),
-    ("+2", Err(BadNumber)),
-    ("1e3", Err(BadNumber)),
-    ("1..2", Err(BadNumber)),
-    ("1.2.3", Err(BadNumber)),
-    ("1,5", Err(BadNumber)),
 ];
 
 const WRITTEN_DEGREES: [(i64, &str); 9] = [
@@ -70,13 +45,6 @@ const PARTS: [(&str, Option<(&str, &str)>); 5] = [
 fn whole_numbers_are_read_up_to_the_edges_of_64_bits(rt: HostRuntime) {
     for (text, number) in WHOLE_NUMBERS {
         assert_eq!(rt; read_whole(text.as_bytes()), number, "{text}");
-    }
-}
-
-#[test]
-fn degrees_have_three_digits_and_nine_decimals_at_most(rt: HostRuntime) {
-    for (text, number) in SHORT_NUMBERS {
-        assert_eq!(rt; read_nano(text.as_bytes()), number, "{text}");
     }
 }
 

@@ -1,22 +1,22 @@
 //! Times as texts, as `2010-01-01T00:00:00Z`, both ways: seconds since 1970-01-01T00:00:00Z.
-ghost use Rattle.std.specs.Prelude.{◌≡◌, ◌<◌, ◌≤◌, ◌+◌, ◌*◌, true, length, IfSome};
+//! Dates are those of the calendar of `jiff`; the form of the texts is narrower than what it reads.
+ghost use Rattle.std.specs.Prelude.{◌≡◌, ◌<◌, ◌≤◌, ◌+◌, true, length, pos, unsigned_abs};
 ghost use Rattle.std.specs.Prelude.{◌∷◌, ◌++◌, [], take, OnErr, OnOk};
 ghost use Rattle.std.specs.List.{list_all};
 ghost use Rattle.std.specs.Result.{result_ok};
-ghost use Rattle.osm_text.specs.Times.{clock_at, clock_places, date_places};
-ghost use Rattle.osm_text.specs.Times.{clock_after, date_text, day_at, existing_clock};
-ghost use Rattle.osm_text.specs.Times.{fitting_time, time, time_text, two_text};
+ghost use Rattle.jiff.specs.Words.{civil_seconds};
+ghost use Rattle.osm_text.specs.Moments.{fitting_seconds};
 ghost use Rattle.osm_text.specs.Times.{are_two_digits, has_form, has_marks, number_at};
+ghost use Rattle.osm_text.specs.Times.{clock_at, clock_places, date_places, day_at, time, time_at};
+ghost use Rattle.osm_text.specs.Times.{clock_after, date_after, date_text, time_text, two_text};
 
-use crate::calendar::{Date, date_of, day_of};
+use jiff::civil::DateTime;
+use jiff_core::civil::Date;
 use osm_entity::{Bytes, NoMemory};
 
 /// A text that is no time, or a time that 32 bits of seconds since 1970 can't hold.
 #[derive(Clone, Copy, Debug, PartialEq, Eq)]
 pub struct BadTime;
-
-/// Seconds to a day.
-const DAY: u64 = 86_400;
 
 /// Whether the marks between the digits stand at their places.
 fn are_marks_there(bytes: &[u8]) -> bool
@@ -59,62 +59,51 @@ fn is_formed(bytes: &[u8]) -> bool
 }
 
 /// The number that the two digits at a place write.
-fn two_digits(bytes: &[u8], place: usize) -> u32
+fn two_digits(bytes: &[u8], place: usize) -> i8
     requires within { place + 2 ≤ length bytes.now }
     requires digits { are_two_digits bytes.now place ≡ true }
-    ensures value { result ≡ number_at place 2 bytes.now }
-    ensures size { result < 100 }
+    ensures value { result ≡ pos (number_at place 2 bytes.now) }
+    ensures size { number_at place 2 bytes.now < 100 }
 {
-    u32::from(bytes[place] - b'0') * 10 + u32::from(bytes[place + 1] - b'0')
-}
-
-/// The seconds from midnight to a time of the day; `None` where it doesn't exist.
-fn clock_of(hour: u32, minute: u32, second: u32) -> Option<u32>
-    ensures value { result ≡ existing_clock hour minute second }
-    ensures size { IfSome result (λ seconds. seconds < 86400) }
-{
-    if hour < 24 && minute < 60 && second < 60 {
-        Some(hour * 3_600 + minute * 60 + second)
-    } else {
-        None
-    }
-}
-
-/// The seconds to a time of a day by its number.
-fn seconds_of(day: u32, clock: u32) -> Result<u32, BadTime>
-    ensures { result_ok result ≡ fitting_time (day * 86400 + clock) }
-{
-    u32::try_from(u64::from(day) * DAY + u64::from(clock)).map_err(|_| BadTime)
+    ((bytes[place] - b'0') * 10 + (bytes[place + 1] - b'0')) as i8
 }
 
 /// The year, in a text of this form.
-fn year_of(bytes: &[u8]) -> u32
+fn year_of(bytes: &[u8]) -> i16
     requires { has_form bytes.now ≡ true }
-    ensures value { result ≡ number_at 0 4 bytes.now }
-    ensures size { result < 10000 }
+    ensures value { result ≡ pos (number_at 0 4 bytes.now) }
+    ensures size { number_at 0 4 bytes.now < 10000 }
 {
-    two_digits(bytes, 0) * 100 + two_digits(bytes, 2)
+    i16::from(two_digits(bytes, 0)) * 100 + i16::from(two_digits(bytes, 2))
 }
 
-/// The day number of the date, in a text of this form.
-fn day_in(bytes: &[u8]) -> Option<u32>
-    requires { has_form bytes.now ≡ true }
-    ensures { result ≡ day_at bytes.now }
+/// The seconds to a date and a time of the day. `BadTime` before 1970 and from 2^32 on.
+/// Seconds are taken as they are: by way of a `Timestamp` they would be divided out of 128 bits.
+fn seconds_of(moment: DateTime) -> Result<u32, BadTime>
+    ensures { result_ok result ≡ fitting_seconds (civil_seconds moment) }
 {
-    day_of(year_of(bytes), two_digits(bytes, 5), two_digits(bytes, 8))
+    u32::try_from(moment.to_plain().to_second()).map_err(|_| BadTime)
 }
 
-/// The seconds from midnight to the time of the day, in a text of this form.
-fn clock_in(bytes: &[u8]) -> Option<u32>
+/// The seconds to the date and the time of the day in a text of this form. `BadTime` where one of
+/// them doesn't exist, before 1970 and from 2^32 on.
+fn seconds_in(bytes: &[u8]) -> Result<u32, BadTime>
     requires { has_form bytes.now ≡ true }
-    ensures value { result ≡ clock_at bytes.now }
-    ensures size { IfSome result (λ seconds. seconds < 86400) }
+    ensures { result_ok result ≡ time_at (day_at bytes.now) (clock_at bytes.now) }
 {
-    clock_of(
+    let moment = DateTime::new(
+        year_of(bytes),
+        two_digits(bytes, 5),
+        two_digits(bytes, 8),
         two_digits(bytes, 11),
         two_digits(bytes, 14),
         two_digits(bytes, 17),
-    )
+        0,
+    );
+    match moment {
+        Ok(moment) => seconds_of(moment),
+        Err(_) => Err(BadTime),
+    }
 }
 
 /// Reads a time, as `2010-01-01T00:00:00Z`, and gives seconds since 1970-01-01T00:00:00Z.
@@ -127,10 +116,7 @@ pub fn read_time(bytes: &[u8]) -> Result<u32, BadTime>
     if !is_formed(bytes) {
         return Err(BadTime);
     }
-    match (day_in(bytes), clock_in(bytes)) {
-        (Some(day), Some(clock)) => seconds_of(day, clock),
-        _ => Err(BadTime),
-    }
+    seconds_in(bytes)
 }
 
 /// A number below 100 in two digits.
@@ -141,17 +127,28 @@ fn pair(n: u32) -> [u8; 2]
     [b'0' + (n / 10) as u8, b'0' + (n % 10) as u8]
 }
 
+/// The date of a day by its number from 1970-01-01. Only the core of `jiff` gives a date by that.
+fn date_of(day: u32) -> Date
+    requires { day < 50_000 }
+    ensures year { result.year ≡ pos (date_after day).year }
+    ensures month { result.month ≡ (date_after day).month }
+    ensures day { result.day ≡ (date_after day).day }
+{
+    match Date::from_unix_epoch_day(i64::from(day)) {
+        Ok(date) => date,
+        Err(_) => unreachable!(),
+    }
+}
+
 /// A date and the `T` after it.
 fn date_bytes(date: Date) -> [u8; 11]
-    requires year { date.year < 10_000 }
-    requires month { date.month < 100 }
-    requires day { date.day < 100 }
-    ensures { result ≡ date_text date.year date.month date.day ++ 84 ∷ [] }
+    ensures { result ≡ date_text (unsigned_abs date.year) date.month date.day ++ 84 ∷ [] }
 {
-    let [y1, y2] = pair(date.year / 100);
-    let [y3, y4] = pair(date.year % 100);
-    let [m1, m2] = pair(date.month);
-    let [d1, d2] = pair(date.day);
+    let year = u32::from(date.year.unsigned_abs());
+    let [y1, y2] = pair(year / 100);
+    let [y3, y4] = pair(year % 100);
+    let [m1, m2] = pair(u32::from(date.month));
+    let [d1, d2] = pair(u32::from(date.day));
     [y1, y2, y3, y4, b'-', m1, m2, b'-', d1, d2, b'T']
 }
 

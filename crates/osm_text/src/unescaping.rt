@@ -1,8 +1,9 @@
 //! Reads escaped texts, as `50%25%`: one to eight hexadecimal digits of either case between two `%`
 //! stand for the character of that code point, as the OPL file format manual says.
-ghost use Rattle.std.specs.Prelude.{◌≡◌, ◌<◌, ◌≤◌, ◌++◌, ◌∷◌, ◌==◌, ℕ, None, Some, IfErr, IfOk, OnErr, OnOk, IsErrOf, IsUtf8, if◌then◌else◌, length};
-ghost use Rattle.std.specs.Char.{digit_value, encode_utf8, is_digit};
+ghost use Rattle.std.specs.Prelude.{◌≡◌, ◌<◌, ◌≤◌, ◌++◌, ◌∷◌, ◌==◌, ◌+◌, ℕ, None, Some, IfErr, IfOk, IfNone, IfSome, OnErr, OnOk, IsErrOf, IsUtf8, if◌then◌else◌, length};
+ghost use Rattle.std.specs.Char.{digit_value, encode_utf8, is_digit, len_utf8};
 ghost use Rattle.std.specs.Fmt.{◌++?◌};
+ghost use Rattle.std.specs.Option.{option_map};
 ghost use Rattle.std.specs.Str.Parse.{digits_value};
 ghost use Rattle.osm_text.specs.Escapes.{are_hex, escape_code, unescaped};
 ghost use Rattle.osm_text.specs.declared.unescaping.EscapeError.TheVariants.{BadEscape, Memory};
@@ -80,6 +81,21 @@ fn push_char(out: &mut Bytes, c: char) -> Result<(), NoMemory>
     out.append(c.encode_utf8(&mut buffer).as_bytes())
 }
 
+/// The character of an escape, where `after` stands behind its first `%`, and the bytes behind its
+/// second; `None` where there is no escape.
+fn read_escape(after: &[u8]) -> Option<(char, &[u8])>
+    ensures none { IfNone result (unescaped (37 ∷ after.now) ≡ None) }
+    ensures some { IfSome result (λ p.
+        unescaped (37 ∷ after.now) ≡ Some (encode_utf8 p.0) ++? unescaped p.1.now) }
+    ensures utf8 { IfSome result (λ p. IsUtf8 after.now → IsUtf8 p.1.now) }
+    ensures shorter { IfSome result (λ p. length p.1.now < length after.now) }
+    ensures room { IfSome result (λ p. len_utf8 p.0 + length p.1.now ≤ length after.now + 1) }
+{
+    let (code, rest) = first_part(after, b'%')?;
+    let c = char_of(code)?;
+    Some((c, rest))
+}
+
 /// Appends the character of an escape, where `after` stands behind its first `%`, and gives the
 /// bytes behind its second. `BadEscape` where there is no escape.
 fn push_escaped<'a>(out: &mut Bytes, after: &'a [u8]) -> Result<&'a [u8], EscapeError>
@@ -90,10 +106,7 @@ fn push_escaped<'a>(out: &mut Bytes, after: &'a [u8]) -> Result<&'a [u8], Escape
     ensures shorter { IfOk result (λ rest. length rest.now < length after.now) }
     ensures refused { IsErrOf result EscapeError.BadEscape → unescaped (37 ∷ after.now) ≡ None }
 {
-    let Some((code, rest)) = first_part(after, b'%') else {
-        return Err(EscapeError::BadEscape);
-    };
-    let Some(c) = char_of(code) else {
+    let Some((c, rest)) = read_escape(after) else {
         return Err(EscapeError::BadEscape);
     };
     push_char(out, c)?;
@@ -138,4 +151,20 @@ pub fn unescape(alloc: Global, bytes: &[u8]) -> Result<Text, EscapeError>
     }
     let text = unescaped_bytes(alloc, bytes)?;
     text_of(alloc, text.as_slice())
+}
+
+/// How many bytes the text that was escaped has; `None` exactly where a `%` begins no escape or its
+/// number is no character. It takes no memory.
+pub fn unescaped_length(bytes: &[u8]) -> Option<usize>
+    ensures value { result ≡ option_map length (unescaped bytes.now) }
+    ensures shorter { IfSome result (λ n. n ≤ length bytes.now) }
+{
+    let mut total = 0;
+    let mut rest = bytes;
+    while let Some((plain, after)) = first_part(rest, b'%') {
+        let (c, more) = read_escape(after)?;
+        total += plain.len() + c.len_utf8();
+        rest = more;
+    }
+    Some(total + rest.len())
 }

@@ -13,7 +13,7 @@ use osm_entity::{Bytes, NoMemory};
 pub struct BadNumber;
 
 /// Whether the text begins with a minus, and the bytes after it.
-pub(crate) fn split_minus(bytes: &[u8]) -> (bool, &[u8])
+fn split_minus(bytes: &[u8]) -> (bool, &[u8])
     ensures minus { result.0 ≡ has_minus bytes.now }
     ensures rest { result.1.now ≡ unsigned_part bytes.now }
 {

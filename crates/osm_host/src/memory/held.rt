@@ -28,7 +28,10 @@ pub struct MemoryHost {
 }
 
 impl Host for MemoryHost {
+    ghost use Rattle.std.specs.Prelude.{true, ◌++◌, IsErr, OnOk};
+    ghost use Rattle.osm_host.specs.Counts.{CountsFailure};
     ghost use Rattle.osm_host.specs.Held.{files_of};
+    ghost use Rattle.osm_host.specs.Memory.{is_muted};
     ghost use Rattle.osm_host.specs.Tallies.{faults_in, given_in, names_in};
 
     type In = MemorySource;
@@ -97,7 +100,13 @@ impl Host for MemoryHost {
         Ok(())
     }
 
-    fn say(&mut self, bytes: &[u8]) -> Result<(), Failed> {
+    fn say(&mut self, bytes: &[u8]) -> Result<(), Failed>
+        ensures said { OnOk result (self.new.said ≡ self.old.said ++ bytes.now) }
+        ensures mute { CountsFailure result self.old.mutes self.new.mutes }
+        ensures files { files_of self.new.files ≡ files_of self.old.files }
+        ensures tallies { self.new.tallies ≡ self.old.tallies }
+        ensures muted { is_muted self.old ≡ true → IsErr result }
+    {
         if self.can_say(bytes.len()) && self.said.append(bytes).is_ok() {
             return Ok(());
         }
@@ -110,7 +119,7 @@ impl MemoryHost {
     ghost use Rattle.std.specs.Prelude.{◌≢◌, nat_le, not, length, ◌&&◌};
     ghost use Rattle.std.specs.List.{AllPairs};
     ghost use Rattle.osm_host.specs.Held.{files_of};
-    ghost use Rattle.osm_host.specs.Memory.{moment_of};
+    ghost use Rattle.osm_host.specs.Memory.{is_muted, moment_of};
     ghost use Rattle.osm_host.specs.declared.outside.Op.{Op};
 
     /// A host with these files, of which no two have one name. A pull gives at most `piece` bytes.
@@ -127,6 +136,7 @@ impl MemoryHost {
         ensures files { IfOk result (λ h. (moment_of h).files ≡ Some (files_of files)) }
         ensures said { IfOk result (λ h. (moment_of h).said ≡ Some []) }
         ensures mute { IfOk result (λ h. (moment_of h).mute ≡ 0) }
+        ensures muted { IfOk result (λ h. is_muted h ≡ mute) }
         ensures counts { IfOk result (λ h. (o : Op) (n : List ℕ) → (moment_of h).count o n ≡ 0) }
         ensures gave { IfOk result (λ h. (n : List ℕ) → (moment_of h).gave n ≡ 0) }
         ensures known { IfOk result (λ h. (moment_of h).known ≡ []) }

@@ -1,0 +1,85 @@
+//! A writer that gathers what it is given, and writes it in large pieces.
+ghost use Rattle.std.specs.Prelude.{◌≡◌, [], OnOk, IfOk, vec_items};
+ghost use Rattle.std.specs.Io.KnownBytes.{Appends, append_known};
+ghost use Rattle.osm_host_std.specs.Gathered.{held};
+
+use crate::transfers::write_whole;
+use osm_entity::NoMemory;
+use osm_host::Failed;
+use std::alloc::Global;
+use std::io::Write;
+
+// How many bytes are gathered at most, before they are written.
+const ROOM: usize = 65536;
+
+/// A file, and the bytes that it has yet to take.
+#[derive(Drop)]
+pub(crate) struct Gatherer<F> {
+    file: F,
+    gathered: Vec<u8>,
+}
+
+/// The room that a sink of a real file gathers in: 64 KiB.
+pub(crate) fn room(alloc: Global) -> Result<Vec<u8>, NoMemory>
+    ensures { IfOk result (λ v. v.items ≡ []) }
+{
+    match Vec::with_capacity(alloc, ROOM) {
+        Ok(room) => Ok(room),
+        Err(_) => Err(NoMemory),
+    }
+}
+
+impl<F> Gatherer<F> {
+    /// Nothing is gathered yet, and it will be in this room.
+    pub(crate) fn new(file: F, room: Vec<u8>) -> Gatherer<F>
+        requires { room.items ≡ [] }
+        ensures file { result.file ≡ file }
+        ensures none { result.gathered.items ≡ [] }
+    {
+        Gatherer {
+            file,
+            gathered: room,
+        }
+    }
+}
+
+impl<F: Write> Gatherer<F> {
+    /// Takes the bytes. Where there is no room for them, it first writes what was gathered; more
+    /// bytes than the whole room has are written at once. At `Err` a write failed.
+    pub(crate) fn take(&mut self, bytes: &[u8]) -> Result<(), Failed>
+        ensures { OnOk result
+            (Appends (held F.contents self.old) (held F.contents self.new) bytes.now) }
+    {
+        if bytes.len() > self.gathered.capacity() - self.gathered.len() {
+            self.write_out()?;
+        }
+        if bytes.len() > self.gathered.capacity() {
+            return write_whole(&mut self.file, bytes);
+        }
+        match self.gathered.extend_from_slice(bytes) {
+            Ok(()) => Ok(()),
+            Err(_) => unreachable!(),
+        }
+    }
+
+    // Writes what was gathered.
+    fn write_out(&mut self) -> Result<(), Failed>
+        ensures none { OnOk result (self.new.gathered.items ≡ []) }
+        ensures ok { OnOk result
+            (Appends (held F.contents self.old) (F.contents self.new.file) []) }
+    {
+        write_whole(&mut self.file, self.gathered.as_slice())?;
+        self.gathered.clear();
+        Ok(())
+    }
+
+    /// Writes what was gathered, and gives the file. At `Err` a write failed.
+    pub(crate) fn finish(mut self) -> Result<F, Failed>
+    where
+        F: Drop,
+        ensures { IfOk result (λ file. Appends (held F.contents self) (F.contents file) []) }
+    {
+        self.write_out()?;
+        Ok(self.file)
+    }
+}

@@ -1,0 +1,247 @@
+-- How a reader's standing is kept while it gives items.
+use Rattle.std.proofs.Common.{◌≡◌, ℕ, ◌+◌, List, [], ◌∷◌, ◌++◌, length, take, Bool, true, false, refl, sym, ap, ◌∙◌, subst, arith, append_assoc, append-nil, inl, inr}
+use Rattle.std.specs.Prelude.{◌⊎◌, Some, None, OnErr, Ok, Err}
+use Rattle.std.specs.declared.result.Result.{Result}
+use Rattle.std.proofs.lemmas.Bool.{lt-ltb, le-ltb}
+use Rattle.std.proofs.lemmas.List.{take_all}
+use Rattle.osm_entity.specs.Items.{ItemValue}
+use Rattle.osm_entity.specs.declared.verdict.Cause.{Cause}
+use Rattle.osm_entity.specs.declared.verdict.Verdict.{Verdict}
+use Rattle.osm_entity.specs.declared.verdict.Verdict.TheVariants.{Running, Clean, Passed, Input, Read, Write, Memory, TooLong as PastLimit}
+use Rattle.osm_opl_line.specs.Line.{LineValue, Skipped, Good, Bad}
+use Rattle.osm_opl_line.specs.Reading.{Reading, BadLine, Cut, after, before, ending_of, is_line, opl_reading}
+use Rattle.osm_opl.specs.Reader.{ReaderValue, CanPull, is_ended, verdict_after}
+use Rattle.osm_opl.specs.Passing.{HasNoLine, SameRest, TakesLine, is_bad, item_in, items_in, passed}
+use Rattle.osm_opl.specs.Standing.{ComeFirst, FitsFeed, GaveItems, MayCome, Stands, reading_from, reader_reading, reader_verdict}
+use Rattle.osm_opl.specs.Unread.{UnreadValue, HasNoNewline, unread_bytes}
+use Rattle.osm_opl.specs.declared.feed.Feed.{Feed}
+use Rattle.osm_opl.specs.declared.feed.Feed.TheVariants.{Open, Ended, Failed, TooLong}
+use Rattle.osm_opl.proofs.KeepingLemmas.{held_all, settled_is}
+use Rattle.osm_opl.proofs.ReadingLemmas.{only, opl_reading-from, reading_from-none, is_line-open}
+
+-- a new reader stands for nothing
+pub new_stands : (r : ReaderValue) → r.given ≡ 0 → r.feed ≡ Open → r.lines ≡ 0 →
+    r.unread ≡ record { held = []; piece = [] } → r.verdict ≡ Running → Stands r [] false []
+new_stands r given open_ lines none run = record {
+  count = given;
+  ended = rw open_ refl;
+  fits = rw open_ (omega arith);
+  running = λ _ more clean may.
+      ap (λ bytes. opl_reading r.flow (bytes ++ more) clean) (take_all r.limit [] (omega arith))
+      ∙ opl_reading-from r.flow more clean
+      ∙ rw (lines, none) refl;
+  over = λ not. absurd (not run);
+}
+
+-- nothing more may come, where the end is as it stands with the source
+pub may_end : (feed : Feed) (came : Bool) → came ≡ is_ended feed → MayCome feed [] came
+may_end Open came is = tt
+may_end Ended came is = (refl, is)
+may_end Failed came is = (refl, is)
+may_end TooLong came is = (refl, is)
+
+-- items before the reading of an item and more
+after-cons : (items : List ItemValue) (item : ItemValue) (reading : Reading) →
+    after items (record { items = item ∷ reading.items; ending = reading.ending })
+    ≡ after (items ++ item ∷ []) reading
+after-cons items item reading =
+    ap (λ all. let r : Reading = record { items = all; ending = reading.ending } in r)
+    (sym (append_assoc items (item ∷ []) reading.items))
+
+-- the reading of all that came, by what is unread
+pub reading_now : (r : ReaderValue) (bytes : List ℕ) (came : Bool) (items : List ItemValue) →
+    Stands r bytes came items → r.verdict ≡ Running →
+    reader_reading r bytes came ≡ after items (reading_from r.flow (r.lines + 1) (unread_bytes r.unread ++ []) came)
+reading_now r bytes came items s run =
+    ap (λ all. opl_reading r.flow all came) (sym (append-nil (take r.limit bytes)))
+    ∙ s.running run [] came (may_end r.feed came s.ended)
+
+-- a reading that ends at a bad line isn't cut off
+bad_not_cut : (cause : Cause) (number : ℕ) → BadLine cause number ≡ Cut → ⊥
+bad_not_cut cause number cut = cc
+
+-- a line that came off is passed
+passes : (old : ReaderValue) (unread : UnreadValue) (value : LineValue) → old.verdict ≡ Running →
+    ((number : ℕ) (more : List ℕ) (clean : Bool) → MayCome old.feed more clean →
+    (is_bad value ≡ true → more ≡ []) → reading_from old.flow number (unread_bytes old.unread ++ more) clean
+    ≡ before number value (reading_from old.flow (number + 1) (unread_bytes unread ++ more) clean)) →
+    GaveItems old (passed value (record old { unread = unread })) (items_in value)
+passes old unread Skipped run reads = λ bytes came items s. record {
+  count = s.count;
+  ended = s.ended;
+  fits = s.fits;
+  running = λ _ more clean may.
+      s.running run more clean may
+      ∙ ap (after items) (reads (old.lines + 1) more clean may (λ bad. cc))
+      ∙ ap (λ all. after all (reading_from old.flow (old.lines + 1 + 1) (unread_bytes unread ++ more) clean))
+      (sym (append-nil items));
+  over = λ not. absurd (not run);
+}
+passes old unread (Good item) run reads = λ bytes came items s. record {
+  count = s.count;
+  ended = s.ended;
+  fits = s.fits;
+  running = λ _ more clean may.
+      s.running run more clean may
+      ∙ ap (after items) (reads (old.lines + 1) more clean may (λ bad. cc))
+      ∙ after-cons items item (reading_from old.flow (old.lines + 1 + 1) (unread_bytes unread ++ more) clean);
+  over = λ not. absurd (not run);
+}
+passes old unread (Bad cause) run reads = λ bytes came items s.
+    let is = reading_now old bytes came items s run
+    ∙ ap (after items) (reads (old.lines + 1) [] came (may_end old.feed came s.ended) (λ bad. refl)) in
+    record {
+      count = s.count;
+      ended = s.ended;
+      fits = s.fits;
+      running = λ runs. cc;
+      over = λ not. record {
+        all = ap (λ r. r.items) is;
+        verdict = ap (λ r. reader_verdict old.limit (length bytes) r.ending) (sym is);
+        stopped = λ cut. absurd (bad_not_cut cause (old.lines + 1) (sym (ap (λ r. r.ending) is) ∙ cut));
+      };
+    }
+
+-- a reader that passed the line which came off gave its item
+pub gave_passed : (old mid : ReaderValue) (value : LineValue) → old.verdict ≡ Running → TakesLine old mid value →
+    GaveItems old (passed value mid) (items_in value)
+gave_passed old mid value run takes =
+    subst (λ r. GaveItems old (passed value r) (items_in value)) (sym takes.same)
+    (passes old mid.unread value run takes.reads)
+
+-- the verdict where no line is left
+verdict_settled : (feed : Feed) (limit count : ℕ) → (verdict_after feed ≡ Running → ⊥) → FitsFeed feed limit count →
+    verdict_after feed ≡ reader_verdict limit count (ending_of (is_ended feed))
+verdict_settled Open limit count not fits = absurd (not refl)
+verdict_settled Ended limit count not fits = refl
+verdict_settled Failed limit count not fits = rw (le-ltb limit count fits) refl
+verdict_settled TooLong limit count not fits = rw (lt-ltb limit count fits) refl
+
+-- a reader without a line left has its verdict
+settles : (old : ReaderValue) (unread : UnreadValue) → old.verdict ≡ Running →
+    unread_bytes unread ≡ unread_bytes old.unread →
+    HasNoNewline (unread_bytes old.unread) → is_line (is_ended old.feed) (unread_bytes old.unread) ≡ false →
+    GaveItems old (record old { unread = unread; verdict = verdict_after old.feed }) []
+settles old unread run same free none = λ bytes came items s.
+    let last : reading_from old.flow (old.lines + 1) (unread_bytes old.unread ++ []) came ≡ only (ending_of came) =
+    rw (append-nil (unread_bytes old.unread), s.ended)
+    (reading_from-none old.flow (old.lines + 1) (unread_bytes old.unread) (is_ended old.feed) free none) in
+    let is = reading_now old bytes came items s run ∙ ap (after items) last in
+    record {
+      count = s.count;
+      ended = s.ended;
+      fits = s.fits;
+      running = λ _ more clean may. rw (append-nil items, same) (s.running run more clean may);
+      over = λ not. record {
+        all = ap (λ r. r.items) is;
+        verdict = verdict_settled old.feed old.limit (length bytes) not s.fits
+            ∙ ap (λ end. reader_verdict old.limit (length bytes) (ending_of end)) (sym s.ended)
+            ∙ ap (λ r. reader_verdict old.limit (length bytes) r.ending) (sym is);
+        stopped = λ cut still. not (ap verdict_after still);
+      };
+    }
+
+-- no byte was read, so all stands
+keeps : (old : ReaderValue) (unread : UnreadValue) → unread_bytes unread ≡ unread_bytes old.unread →
+    GaveItems old (record old { unread = unread }) []
+keeps old unread same = λ bytes came items s. record {
+  count = s.count;
+  ended = s.ended;
+  fits = s.fits;
+  running = λ run more clean may. rw (append-nil items, same) (s.running run more clean may);
+  over = λ not. record {
+    all = rw (append-nil items) (s.over not).all;
+    verdict = (s.over not).verdict;
+    stopped = (s.over not).stopped;
+  };
+}
+
+-- a reader that read no byte stands for what it stood for
+pub gave_none : (old new : ReaderValue) → SameRest old new → GaveItems old new []
+gave_none old new rest =
+    subst (λ r. GaveItems old r []) (sym rest.same) (keeps old new.unread rest.rest)
+
+-- what holds anyway holds after an error
+pub OnErr-always : {T E Q : Type 0} (r : Result T E) → Q → OnErr r Q
+OnErr-always {Q = Q} r q = elim r as (λ r. OnErr r Q) [ Ok x ↦ tt | Err e ↦ q ]
+
+-- a reader without a line left gives its verdict
+pub gave_verdict : (old mid new : ReaderValue) → old.verdict ≡ Running → HasNoLine old mid →
+    new ≡ record mid { verdict = verdict_after mid.feed } → GaveItems old new []
+gave_verdict old mid new run last is =
+    let feed : is_ended old.feed ≡ is_ended mid.feed = ap (λ r. is_ended r.feed) (sym last.same) in
+    let none : is_line (is_ended old.feed) (unread_bytes old.unread) ≡ false =
+    ap (λ clean. is_line clean (unread_bytes old.unread)) feed
+    ∙ ap (is_line (is_ended mid.feed)) (sym last.held)
+    ∙ last.none in
+    subst (λ r. GaveItems old r []) (sym (settled_is old mid new last is))
+    (settles old mid.unread run (held_all old mid last) (subst HasNoNewline last.held last.kept.unended) none)
+
+-- items given one after another
+pub gave_more : (old mid new : ReaderValue) (first more : List ItemValue) → GaveItems old mid first →
+    GaveItems mid new more → GaveItems old new (first ++ more)
+gave_more old mid new first more one two = λ bytes came items s.
+    subst (λ all. Stands new bytes came all) (append_assoc items first more)
+    (two bytes came (items ++ first) (one bytes came items s))
+
+-- a line that says an item says that one
+pub items_in-some : (value : LineValue) (item : ItemValue) → Some item ≡ item_in value → items_in value ≡ item ∷ []
+items_in-some Skipped item is = cc
+items_in-some (Good said) item is = cc
+items_in-some (Bad cause) item is = cc
+
+-- a line that says no item
+pub items_in-none : (value : LineValue) → None ≡ item_in value → items_in value ≡ []
+items_in-none Skipped is = refl
+items_in-none (Good said) is = cc
+items_in-none (Bad cause) is = refl
+
+-- a reader that passed a line in earlier lines' wake gave its items
+pub gave_line : (first old mid new : ReaderValue) (value : LineValue) (items : List ItemValue) →
+    old.verdict ≡ Running → GaveItems first old [] → TakesLine old mid value → new ≡ passed value mid →
+    items_in value ≡ items → GaveItems first new items
+gave_line first old mid new value items run gave takes is says =
+    gave_more first old new [] items gave
+    (subst (λ r. GaveItems old r items) (sym is)
+    (subst (λ more. GaveItems old (passed value mid) more) says (gave_passed old mid value run takes)))
+
+-- a verdict is running or not
+pub runs_or_not : (verdict : Verdict) → (verdict ≡ Running) ⊎ (verdict ≡ Running → ⊥)
+runs_or_not Running = inl refl
+runs_or_not Clean = inr (λ e. cc)
+runs_or_not Passed = inr (λ e. cc)
+runs_or_not (Input cause spot) = inr (λ e. cc)
+runs_or_not PastLimit = inr (λ e. cc)
+runs_or_not Read = inr (λ e. cc)
+runs_or_not Write = inr (λ e. cc)
+runs_or_not Memory = inr (λ e. cc)
+
+-- what a reader gave is a front of the items
+pub gives_front : (r : ReaderValue) (bytes : List ℕ) (came : Bool) (items : List ItemValue) →
+    Stands r bytes came items →
+    ComeFirst items (reader_reading r bytes came).items
+gives_front r bytes came items s =
+    elim (runs_or_not r.verdict) as (λ _. ComeFirst items (reader_reading r bytes came).items) [
+      | inl run ↦ record {
+        rest = (reading_from r.flow (r.lines + 1) (unread_bytes r.unread ++ []) came).items;
+        joined = ap (λ reading. reading.items) (reading_now r bytes came items s run);
+      }
+      | inr not ↦ record {
+        rest = [];
+        joined = (s.over not).all ∙ sym (append-nil items);
+      }
+    ]
+
+-- a reader that may be pulled has given all items of the lines that came whole
+pub gives_all : (r : ReaderValue) (bytes : List ℕ) (came : Bool) (items : List ItemValue) → Stands r bytes came items →
+    CanPull r → (reader_reading r bytes came).items ≡ items
+gives_all r bytes came items s pulls =
+    let rest : unread_bytes r.unread ++ [] ≡ r.unread.held =
+    append-nil (unread_bytes r.unread) ∙ ap (λ piece. r.unread.held ++ piece) pulls.passed ∙ append-nil r.unread.held in
+    let open_ : came ≡ false = s.ended ∙ ap is_ended pulls.feeds in
+    let none : reading_from r.flow (r.lines + 1) (unread_bytes r.unread ++ []) came ≡ only (ending_of false) =
+    rw (rest, open_)
+    (reading_from-none r.flow (r.lines + 1) r.unread.held false pulls.holds.unended
+    (is_line-open r.unread.held pulls.holds.short)) in
+    ap (λ reading. reading.items) (reading_now r bytes came items s pulls.running ∙ ap (after items) none)
+    ∙ append-nil items

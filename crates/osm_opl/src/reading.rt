@@ -1,0 +1,234 @@
+//! Reads the items of an OPL file, pull by pull.
+ghost use Rattle.std.specs.Prelude.{◌≡◌, ℕ, ◌+◌, ◌≤◌, ◌<◌, ◌∷◌, [], length, false, IfOk, IfNone, IfSome, OnOk, OnErr, IsOk, IsTrue, ◌↔◌};
+ghost use Rattle.std.specs.Io.KnownBytes.{IsAtEnd};
+ghost use Rattle.osm_entity.specs.declared.verdict.Verdict.TheVariants.{Running};
+ghost use Rattle.osm_opl_line.specs.Seen.{line_seen};
+ghost use Rattle.osm_opl.specs.Reader.{CanPull, IsReader, SameSource, is_ended, verdict_after};
+ghost use Rattle.osm_opl.specs.Passing.{HasNoLine, SameRest, TakesLine, item_in, passed};
+ghost use Rattle.osm_opl.specs.Standing.{GaveItems, Stands};
+ghost use Rattle.osm_opl.specs.Pulling.{FaultsOfPull, PulledOnce, feed_after};
+ghost use Rattle.osm_opl.specs.Unread.{IsUnread, unread_bytes};
+ghost use Rattle.osm_opl.specs.declared.feed.Feed.TheVariants.{Open, Ended};
+
+use crate::feed::Feed;
+use crate::unread::{Found, Unread};
+use osm_entity::{Cause, Flow, Item, NoMemory, Spot, Verdict};
+use osm_host::Source;
+use osm_opl_line::LineRead;
+use std::alloc::Global;
+use std::marker::Model;
+
+/// Reads an OPL file from a source, which is passed to each pull. After a pull, `next` is called
+/// until it answers `None`, and then `pull` again as long as the verdict is running. It holds one
+/// piece of 64 KiB, and of a line that began in earlier pieces at most 16,777,216 bytes.
+#[derive(Drop)]
+pub struct OplReader {
+    alloc: Global,
+    flow: Flow,
+    /// How many bytes it reads; what comes past them is dropped.
+    limit: u64,
+    /// How many bytes its source gave; it stops at 2^64 - 1.
+    given: u64,
+    feed: Feed,
+    /// How many lines were read.
+    lines: u64,
+    unread: Unread,
+    verdict: Verdict,
+}
+
+impl Model for OplReader {
+    ghost use Rattle.osm_opl.specs.Reader.{ReaderValue, IsReader};
+
+    ghost Value = { ReaderValue };
+
+    ghost use Rattle.osm_opl.specs.ReaderSeen.{reader_seen};
+
+    ghost view = { reader_seen };
+
+    ghost invariant = { λ r. IsReader (reader_seen r) };
+}
+
+impl OplReader {
+    /// A reader of a file of this flow, of which it reads so many bytes at most.
+    pub fn new(alloc: Global, flow: Flow, limit: u64) -> Result<OplReader, NoMemory>
+        ensures stands { IfOk result (λ r. Stands r [] false []) }
+        ensures pulls { IfOk result (λ r. CanPull r) }
+        ensures made { IfOk result (λ r. (r.flow ≡ flow) × (r.limit ≡ limit)) }
+    {
+        Ok(OplReader {
+            alloc,
+            flow,
+            limit,
+            given: 0,
+            feed: Feed::Open,
+            lines: 0,
+            unread: Unread::new(alloc)?,
+            verdict: Verdict::Running,
+        })
+    }
+
+    /// What every reader keeps.
+    pub fn kept(&self)
+        ensures reader { IsReader self.now }
+        ensures holds { IsUnread self.now.unread }
+    {
+        self.unread.kept();
+    }
+
+    /// How it stands with the reader. Other than running it is final.
+    pub fn verdict(&self) -> Verdict
+        ensures { result ≡ self.now.verdict }
+    {
+        self.verdict
+    }
+
+    /// How many bytes the source gave; it stops at 2^64 - 1.
+    pub fn given(&self) -> u64
+        ensures { result ≡ self.now.given }
+    {
+        self.given
+    }
+
+    /// Whether the source answered its end.
+    pub fn has_ended(&self) -> bool
+        ensures { result ≡ is_ended self.now.feed }
+    {
+        self.feed.is_ended()
+    }
+
+    /// Pulls once. It may be called on a new reader, and whenever `next` answered `None` and the
+    /// verdict is running. The source's failure, its end or its excess becomes the verdict once the
+    /// items before it have been given. It takes no memory, and so never answers `NoMemory`.
+    pub fn pull<S: Source>(&mut self, source: &mut S) -> Result<(), NoMemory>
+        requires { CanPull self.old }
+        ensures name { S.name source.new ≡ S.name source.old }
+        ensures ok { IsOk result }
+        ensures pulled { PulledOnce S.rest S.given source.old source.new self.old self.new }
+        ensures end { self.new.feed ≡ Ended → IsAtEnd (S.rest source.new) }
+        ensures more { self.new.feed ≡ Open → self.old.given < self.new.given }
+        ensures faults { FaultsOfPull self.new.feed (S.faults source.old) (S.faults source.new) }
+        ensures same { (self.new.flow ≡ self.old.flow) × (self.new.limit ≡ self.old.limit)
+            × (self.new.verdict ≡ Running) }
+    {
+        let room = self.limit - self.given;
+        match self.unread.pull(source, room) {
+            Ok(count) => {
+                self.feed = feed_after(count, room);
+                self.given = self.given.saturating_add(count as u64);
+            }
+            Err(_) => self.feed = Feed::Failed,
+        }
+        Ok(())
+    }
+
+    /// The next item. `None` where the whole lines that are left give no further item before their
+    /// end or before the first bad one; then `verdict` says which. At `Err` nothing was read, and
+    /// the call may be made again.
+    pub fn next(&mut self) -> Result<Option<Item>, NoMemory>
+        ensures some { IfOk result (λ found. IfSome found
+            (λ item. GaveItems self.old self.new (item ∷ []))) }
+        ensures falls { IfOk result (λ found. IfSome found
+            (λ _. length (unread_bytes self.new.unread) < length (unread_bytes self.old.unread))) }
+        ensures none { IfOk result (λ found. IfNone found (GaveItems self.old self.new [])) }
+        ensures stops { IfOk result (λ found. IfNone found
+            (self.new.verdict ≡ Running → CanPull self.new)) }
+        ensures err { OnErr result (GaveItems self.old self.new []) }
+        ensures same { SameSource self.old self.new }
+    {
+        while self.is_running() {
+            match self.take_line()? {
+                Some(read) => {
+                    if let Some(item) = self.pass(read) {
+                        return Ok(Some(item));
+                    }
+                }
+                None => {
+                    self.settle();
+                    return Ok(None);
+                }
+            }
+        }
+        Ok(None)
+    }
+
+    // Whether no verdict was reached.
+    fn is_running(&self) -> bool
+        ensures runs { IsTrue result ↔ self.now.verdict ≡ Running }
+        ensures reader { IsReader self.now }
+    {
+        matches!(self.verdict, Verdict::Running)
+    }
+
+    // Takes the next line off; `None` where there is none. At `Err` nothing was read.
+    fn take_line(&mut self) -> Result<Option<LineRead>, NoMemory>
+        ensures some { IfOk result (λ found. IfSome found
+            (λ read. TakesLine self.old self.new (line_seen read))) }
+        ensures none { IfOk result (λ found. IfNone found (HasNoLine self.old self.new)) }
+        ensures err { OnErr result (SameRest self.old self.new) }
+    {
+        match self.unread.take_line(self.alloc, self.flow)? {
+            Found::Line(read) => Ok(Some(read)),
+            Found::TooLong => Ok(Some(LineRead::Bad(Cause::LineTooLong))),
+            Found::Unfinished => self.take_last(),
+        }
+    }
+
+    // Takes off what is left at the end of the source.
+    fn take_last(&mut self) -> Result<Option<LineRead>, NoMemory>
+        requires passed { self.old.unread.piece ≡ [] }
+        requires holds { IsUnread self.old.unread }
+        ensures some { IfOk result (λ found. IfSome found
+            (λ read. TakesLine self.old self.new (line_seen read))) }
+        ensures none { IfOk result (λ found. IfNone found (HasNoLine self.old self.new)) }
+        ensures err { OnErr result (SameRest self.old self.new) }
+    {
+        if !self.feed.is_ended() || self.unread.is_empty() {
+            return Ok(None);
+        }
+        Ok(Some(self.unread.take_held(self.alloc, self.flow)?))
+    }
+
+    // Counts the line that came off, and gives its item; a bad one ends the reading.
+    fn pass(&mut self, read: LineRead) -> Option<Item>
+        requires limited { self.old.lines + length (unread_bytes self.old.unread) < self.old.limit }
+        requires counted { self.old.lines + length (unread_bytes self.old.unread) < self.old.given }
+        ensures item { result ≡ item_in (line_seen read) }
+        ensures passed { self.new ≡ passed (line_seen read) self.old }
+    {
+        match read {
+            LineRead::Skipped => {
+                self.lines += 1;
+                None
+            }
+            LineRead::Item(item) => {
+                self.lines += 1;
+                Some(item)
+            }
+            LineRead::Bad(cause) => {
+                let spot = Spot::Line(self.lines + 1);
+                self.verdict = Verdict::Input { cause, spot };
+                None
+            }
+        }
+    }
+
+    // Reaches the verdict of a reader without a line left.
+    fn settle(&mut self)
+        ensures { self.new ≡ record self.old { verdict = verdict_after self.old.feed } }
+    {
+        self.verdict = self.feed.verdict();
+    }
+}
+
+// How it stands with a source that gave so many bytes, of which there is room for so many.
+fn feed_after(count: usize, room: u64) -> Feed
+    ensures { result ≡ feed_after count room }
+{
+    if count == 0 {
+        Feed::Ended
+    } else if count as u64 > room {
+        Feed::TooLong
+    } else {
+        Feed::Open
+    }
+}

@@ -1,0 +1,248 @@
+//! The bytes that were pulled and not read yet, and the lines that come off their front.
+//!
+//! A line that lies whole in one piece is read where the pull put it. Only the front of a line that
+//! goes on in the next piece is copied, and newlines are looked for in new bytes alone.
+ghost use Rattle.std.specs.Prelude.{◌≡◌, ◌+◌, ◌≤◌, ◌<◌, ◌++◌, [], length, min, take, drop, vec_len, IfOk, IfNone, IfSome, OnOk, OnErr, Ok, IsTrue, ◌↔◌};
+ghost use Rattle.std.specs.Io.KnownBytes.{IsAtEnd};
+ghost use Rattle.osm_host.specs.Counts.{raised, CountsFailure};
+ghost use Rattle.osm_opl_line.specs.Line.{longest_line, opl_line};
+ghost use Rattle.osm_opl_line.specs.Seen.{line_seen};
+ghost use Rattle.osm_opl.specs.Unread.{EndsAt, HasNoNewline, IsUnread, UnreadValue, piece_size, unread_bytes};
+ghost use Rattle.osm_opl.specs.Found.{Filled, FoundIn, TookLine};
+
+use osm_entity::{Bytes, Cause, Flow, NoMemory};
+use osm_host::{Failed, Source};
+use osm_opl_line::{LineRead, read_line};
+use osm_text::first_part;
+use std::alloc::Global;
+use std::marker::Model;
+
+/// The most bytes of a line.
+const LONGEST_LINE: usize = 16_777_216;
+
+/// How many bytes are asked of a source in one pull.
+const PIECE: usize = 65_536;
+
+/// What the unread bytes begin with.
+#[derive(Drop)]
+pub(crate) enum Found {
+    /// A line, which says this.
+    Line(LineRead),
+    /// A line that isn't at its end, and that is too long already.
+    TooLong,
+    /// A line that isn't at its end, or nothing.
+    Unfinished,
+}
+
+/// The bytes that were pulled and not read yet.
+#[derive(Drop)]
+pub(crate) struct Unread {
+    /// The front of a line that began in earlier pieces.
+    held: Bytes,
+    /// What the last pull gave.
+    buffer: Vec<u8>,
+    /// The part of the buffer that wasn't read yet begins here.
+    start: usize,
+    /// It stops before this place.
+    stop: usize,
+}
+
+impl Model for Unread {
+    ghost use Rattle.osm_opl.specs.Unread.{UnreadValue};
+
+    ghost Value = { UnreadValue };
+
+    ghost use Rattle.osm_opl.specs.UnreadSeen.{unread_seen, IsPlaced};
+
+    ghost view = { unread_seen };
+
+    ghost invariant = { IsPlaced };
+}
+
+// Room for what one pull gives.
+fn new_buffer(alloc: Global) -> Result<Vec<u8>, NoMemory>
+    ensures { IfOk result (λ v. vec_len v ≡ PIECE) }
+{
+    match vec![in alloc; 0u8; PIECE] {
+        Ok(buffer) => Ok(buffer),
+        Err(_) => Err(NoMemory),
+    }
+}
+
+// The lesser of the two.
+fn at_most(count: usize, room: u64) -> usize
+    ensures { result ≡ min room count }
+{
+    if count as u64 > room {
+        room as usize
+    } else {
+        count
+    }
+}
+
+impl Unread {
+    /// No bytes.
+    pub(crate) fn new(alloc: Global) -> Result<Unread, NoMemory>
+        ensures { IfOk result (λ u. u ≡ record { held = []; piece = [] }) }
+    {
+        Ok(Unread {
+            held: Bytes::new(alloc),
+            buffer: new_buffer(alloc)?,
+            start: 0,
+            stop: 0,
+        })
+    }
+
+    /// What it keeps.
+    pub(crate) fn kept(&self)
+        ensures { IsUnread self.now }
+    {
+        let _start = &self.start;
+    }
+
+    /// Whether there is no byte.
+    pub(crate) fn is_empty(&self) -> bool
+        ensures { IsTrue result ↔ unread_bytes self.now ≡ [] }
+    {
+        self.held.len() == 0 && self.start == self.stop
+    }
+
+    /// Pulls once, and keeps of what comes as much as there is room for.
+    pub(crate) fn pull<S: Source>(&mut self, source: &mut S, room: u64) -> Result<usize, Failed>
+        requires { self.old.piece ≡ [] }
+        ensures name { S.name source.new ≡ S.name source.old }
+        ensures filled { IfOk result
+            (λ count. Filled S.rest source.old source.new room count self.old self.new) }
+        ensures small { IfOk result (λ count. count ≤ piece_size) }
+        ensures err { OnErr result (self.new ≡ self.old) }
+        ensures left { OnErr result (S.rest source.new ≡ S.rest source.old) }
+        ensures end { result ≡ Ok 0 → IsAtEnd (S.rest source.new) }
+        ensures given { IfOk result (λ n. S.given source.new ≡ raised (S.given source.old) n) }
+        ensures idle { OnErr result (S.given source.new ≡ S.given source.old) }
+        ensures faults { CountsFailure result (S.faults source.old) (S.faults source.new) }
+    {
+        self.start = 0;
+        self.stop = 0;
+        let count = source.pull(self.buffer.as_mut_slice())?;
+        self.stop = at_most(count, room);
+        Ok(count)
+    }
+
+    /// Takes the first line off. At `Err` it has the same bytes.
+    pub(crate) fn take_line(&mut self, alloc: Global, flow: Flow) -> Result<Found, NoMemory>
+        ensures found { IfOk result (λ found. FoundIn flow self.old self.new found) }
+        ensures err { OnErr result (unread_bytes self.new ≡ unread_bytes self.old) }
+    {
+        match self.line_length() {
+            Some(count) => Ok(Found::Line(self.take_whole(alloc, flow, count)?)),
+            None => self.take_unfinished(),
+        }
+    }
+
+    /// Takes off what is held as a line. At `Err` it has the same bytes.
+    pub(crate) fn take_held(&mut self, alloc: Global, flow: Flow) -> Result<LineRead, NoMemory>
+        ensures says { IfOk result (λ read. line_seen read ≡ opl_line flow self.old.held) }
+        ensures ok { OnOk result (self.new ≡ record { held = []; piece = self.old.piece }) }
+        ensures err { OnErr result (self.new ≡ self.old) }
+    {
+        let read = read_line(alloc, self.held.as_slice(), flow)?;
+        self.pass_over(0);
+        Ok(read)
+    }
+
+    // How many bytes of the piece stand before its first newline.
+    fn line_length(&self) -> Option<usize>
+        ensures none { IfNone result (HasNoNewline self.now.piece) }
+        ensures some { IfSome result (λ count. EndsAt self.now.piece count) }
+    {
+        match first_part(&self.buffer[self.start..self.stop], b'\n') {
+            Some((line, _)) => Some(line.len()),
+            None => None,
+        }
+    }
+
+    // Takes off a line whose newline stands in the piece behind so many bytes.
+    fn take_whole(&mut self, alloc: Global, flow: Flow, count: usize) -> Result<LineRead, NoMemory>
+        requires { EndsAt self.old.piece count }
+        ensures ok { IfOk result (λ read. TookLine flow self.old self.new read) }
+        ensures err { OnErr result (unread_bytes self.new ≡ unread_bytes self.old) }
+    {
+        if self.held.len() + count > LONGEST_LINE {
+            self.pass_over(count + 1);
+            return Ok(LineRead::Bad(Cause::LineTooLong));
+        }
+        if self.held.len() == 0 {
+            self.take_direct(alloc, flow, count)
+        } else {
+            self.take_joined(alloc, flow, count)
+        }
+    }
+
+    // Takes off a line that lies whole in the piece.
+    fn take_direct(&mut self, alloc: Global, flow: Flow, count: usize) -> Result<LineRead, NoMemory>
+        requires ends { EndsAt self.old.piece count }
+        requires whole { self.old.held ≡ [] }
+        ensures ok { IfOk result (λ read. TookLine flow self.old self.new read) }
+        ensures err { OnErr result (unread_bytes self.new ≡ unread_bytes self.old) }
+    {
+        let line = &self.buffer[self.start..self.start + count];
+        let read = read_line(alloc, line, flow)?;
+        self.pass_over(count + 1);
+        Ok(read)
+    }
+
+    // Takes off a line that began in earlier pieces.
+    fn take_joined(&mut self, alloc: Global, flow: Flow, count: usize) -> Result<LineRead, NoMemory>
+        requires ends { EndsAt self.old.piece count }
+        requires short { length self.old.held + count ≤ longest_line }
+        ensures ok { IfOk result (λ read. TookLine flow self.old self.new read) }
+        ensures err { OnErr result (unread_bytes self.new ≡ unread_bytes self.old) }
+    {
+        self.hold(count)?;
+        let read = read_line(alloc, self.held.as_slice(), flow)?;
+        self.pass_over(1);
+        Ok(read)
+    }
+
+    // Holds the piece, which ends no line, or drops all where that is too much for a line.
+    fn take_unfinished(&mut self) -> Result<Found, NoMemory>
+        requires { HasNoNewline self.old.piece }
+        ensures found { (flow : Flow) →
+            IfOk result (λ found. FoundIn flow self.old self.new found) }
+        ensures err { OnErr result (self.new ≡ self.old) }
+    {
+        let count = self.stop - self.start;
+        if self.held.len() + count > LONGEST_LINE {
+            self.pass_over(count);
+            return Ok(Found::TooLong);
+        }
+        self.hold(count)?;
+        Ok(Found::Unfinished)
+    }
+
+    // Holds the first so many bytes of the piece.
+    fn hold(&mut self, count: usize) -> Result<(), NoMemory>
+        requires fits { count ≤ length self.old.piece }
+        requires unended { HasNoNewline (take count self.old.piece) }
+        requires short { length self.old.held + count ≤ longest_line }
+        ensures ok { OnOk result (self.new ≡ record {
+          held = self.old.held ++ take count self.old.piece;
+          piece = drop count self.old.piece;
+        }) }
+        ensures err { OnErr result (self.new ≡ self.old) }
+    {
+        let front = &self.buffer[self.start..self.start + count];
+        self.held.append(front)?;
+        self.start += count;
+        Ok(())
+    }
+
+    // Drops what is held, and the first so many bytes of the piece.
+    fn pass_over(&mut self, count: usize)
+        requires { count ≤ length self.old.piece }
+        ensures { self.new ≡ record { held = []; piece = drop count self.old.piece } }
+    {
+        self.held.truncate(0);
+        self.start += count;
+    }
+}

@@ -1,0 +1,42 @@
+use Rattle.std.proofs.Common.{arith}
+use Rattle.std.specs.List.{sum_by}
+use Rattle.osm_entity.specs.Entities.{tag_weight}
+use Rattle.osm_opl_line.specs.Contents.{tag_in, tags_in}
+use Rattle.osm_opl_line.specs.Cut.{weighed}
+use Rattle.osm_opl_line.proofs.WeighingLemmas.{cause-handed_on, length-split, weighed-bad, weighed-end, weighed-step}
+use Rattle.osm_opl_line.proofs.weighing.weigh_tags.Goals as goal
+
+pub weigh_tag-requires : goal.weigh_tag-requires
+weigh_tag-requires c =
+    let split = length-split c.loop-part.rest.now c.in-Some.part.now c.in-Some.more.now c.in-Some.ensures.some in
+    omega (arith, c.requires, c.loop-part.invariant.small)
+
+pub returns-in_err-total-clause-value : goal.returns-in_err-total-clause-value
+returns-in_err-total-clause-value c =
+    cause-handed_on c.from_residual.result _ c.in_err-total.field-0.0 c.from_residual.ensures.1
+    (weighed-bad tag_weight tag_in (weighed (sum_by tag_weight) (tags_in c.args.content.now)) c.loop-part.rest.now
+    c.in-Some.part.now _ c.loop-part.total c.in_err-total.field-0.0 c.in-Some.ensures.some
+    c.in_err-total.ensures.value c.loop-part.invariant.sum)
+
+pub loop-part-preserved : goal.loop-part-preserved
+loop-part-preserved c =
+    let split = length-split c.loop-part.rest.now c.in-Some.part.now c.in-Some.more.now c.in-Some.ensures.some in
+    record {
+      sum =
+          weighed-step tag_weight tag_in (weighed (sum_by tag_weight) (tags_in c.args.content.now))
+          c.loop-part.rest.now c.in-Some.part.now c.in-Some.more.now c.loop-part.total c.in_ok-total.field-0
+          c.in-Some.ensures.some c.in_ok-total.ensures.value c.loop-part.invariant.sum;
+      small = omega (arith, c.in_ok-total.ensures.small, c.loop-part.invariant.small);
+    }
+
+pub returns-in_err-last-clause-value : goal.returns-in_err-last-clause-value
+returns-in_err-last-clause-value c =
+    cause-handed_on c.from_residual-in_err-last.result _ c.in_err-last.field-0.0 c.from_residual-in_err-last.ensures.1
+    (weighed-bad tag_weight tag_in (weighed (sum_by tag_weight) (tags_in c.args.content.now)) c.loop-part.rest.now
+    c.loop-part.rest.now _ c.loop-part.total c.in_err-last.field-0.0 c.in_default.ensures.none
+    c.in_err-last.ensures.value c.loop-part.invariant.sum)
+
+pub returns-clause-value : goal.returns-clause-value
+returns-clause-value c =
+    weighed-end tag_weight tag_in (weighed (sum_by tag_weight) (tags_in c.args.content.now)) c.loop-part.rest.now
+    c.loop-part.total c.in_ok-last.last c.in_default.ensures.none c.in_ok-last.ensures.value c.loop-part.invariant.sum

@@ -1,0 +1,76 @@
+//! Cuts tags and members into their parts, which are slices of them.
+ghost use Rattle.std.specs.Prelude.{◌≡◌, ◌≤◌, ◌<◌, ◌+◌, ◌≢◌, Err, Some, IfNone, IfSome, IsUtf8, length, []};
+ghost use Rattle.std.specs.List.{position};
+ghost use Rattle.std.specs.Option.{ok_or};
+ghost use Rattle.osm_entity.specs.declared.verdict.Cause.TheVariants.{BadField, BadNumber};
+ghost use Rattle.osm_text.specs.Numbers.{whole};
+ghost use Rattle.osm_opl_line.specs.Contents.{is_at_sign, is_equals, kind_by, member_in, member_of, ref_in, tag_in, tag_of, text_in};
+
+use osm_entity::Kind;
+
+/// The kind of a letter: `n`, `w` or `r`.
+pub(crate) fn kind_of(letter: u8) -> Option<Kind>
+    ensures { result ≡ kind_by letter }
+{
+    match letter {
+        b'n' => Some(Kind::Node),
+        b'w' => Some(Kind::Way),
+        b'r' => Some(Kind::Relation),
+        _ => None,
+    }
+}
+
+fn find_equals(part: &[u8]) -> Option<usize>
+    ensures { result ≡ position is_equals part.now }
+{
+    part.iter().position(|byte| *byte == b'=')
+}
+
+fn find_at_sign(part: &[u8]) -> Option<usize>
+    ensures { result ≡ position is_at_sign part.now }
+{
+    part.iter().position(|byte| *byte == b'@')
+}
+
+/// The escaped key and value of a tag; `None` where it has no `=`, or no key before it.
+pub(crate) fn cut_tag(part: &[u8]) -> Option<(&[u8], &[u8])>
+    ensures none { IfNone result (tag_in part.now ≡ Err BadField) }
+    ensures some { IfSome result (λ p.
+        tag_in part.now ≡ tag_of (text_in p.0.now) (text_in p.1.now)) }
+    ensures named { IfSome result (λ p. p.0.now ≢ []) }
+    ensures shorter { IfSome result (λ p. length p.0.now + length p.1.now < length part.now) }
+    ensures utf8 { IfSome result (λ p. IsUtf8 part.now → IsUtf8 p.0.now × IsUtf8 p.1.now) }
+{
+    match find_equals(part) {
+        Some(at) if at > 0 => Some((&part[..at], &part[at + 1..])),
+        _ => None,
+    }
+}
+
+/// The number of a ref; `None` where it doesn't begin with `n`.
+pub(crate) fn cut_ref(part: &[u8]) -> Option<&[u8]>
+    ensures none { IfNone result (ref_in part.now ≡ Err BadField) }
+    ensures some { IfSome result (λ id. ref_in part.now ≡ ok_or (whole id.now) BadNumber) }
+{
+    match part {
+        [b'n', id @ ..] => Some(id),
+        _ => None,
+    }
+}
+
+/// The kind, the number and the escaped role of a member; `None` where it has no letter of a kind
+/// or no `@`.
+pub(crate) fn cut_member(part: &[u8]) -> Option<(Kind, &[u8], &[u8])>
+    ensures none { IfNone result (member_in part.now ≡ Err BadField) }
+    ensures some { IfSome result (λ p.
+        member_in part.now ≡ member_of (Some p.0) (whole p.1.now) (text_in p.2.now)) }
+    ensures shorter { IfSome result (λ p. length p.2.now < length part.now) }
+    ensures utf8 { IfSome result (λ p. IsUtf8 part.now → IsUtf8 p.2.now) }
+{
+    let [letter, rest @ ..] = part else {
+        return None;
+    };
+    let kind = kind_of(*letter)?;
+    let at = find_at_sign(rest)?;
+    Some((kind, &rest[..at], &rest[at + 1..]))
+}

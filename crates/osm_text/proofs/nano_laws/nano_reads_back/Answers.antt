@@ -1,5 +1,0 @@
-use Rattle.osm_text.proofs.NanoLemmas.{nano-nano_text}
-use Rattle.osm_text.proofs.nano_laws.nano_reads_back.Goals as goal
-
-pub returns : goal.returns
-returns c = nano-nano_text
