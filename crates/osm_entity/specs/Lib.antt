@@ -1,4 +1,5 @@
 pub mod Entities
 pub mod Items
+pub mod Keys
 pub mod Seen
 pub mod Streams

@@ -67,15 +67,17 @@ fn keys_are_ordered_by_kind_and_then_by_signed_id(rt: HostRuntime) -> Result<(),
         (Kind::Relation, 0),
     ];
     for pair in rising.windows(2) {
-        assert!(rt;
-            Key {
-                kind: pair[0].0,
-                id: pair[0].1
-            } < Key {
-                kind: pair[1].0,
-                id: pair[1].1
-            }
-        );
+        let first = Key {
+            kind: pair[0].0,
+            id: pair[0].1,
+        };
+        let second = Key {
+            kind: pair[1].0,
+            id: pair[1].1,
+        };
+        assert!(rt; first.is_before(&second));
+        assert!(rt; !second.is_before(&first));
+        assert!(rt; !first.is_before(&first));
     }
     let item = Item {
         act: Act::Delete,

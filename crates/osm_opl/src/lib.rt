@@ -7,6 +7,8 @@
 mod feed;
 mod laws;
 mod reading;
+#[cfg(test)]
+mod tests;
 mod unread;
 mod writing;
 
