@@ -1,0 +1,10 @@
+pub mod Causes
+pub mod Codes
+pub mod Command
+pub mod Copying
+pub mod Course
+pub mod HowFar
+pub mod OnHost
+pub mod Outcome
+pub mod Plan
+pub mod Words
