@@ -1,10 +1,9 @@
 //! Copies the items of one file to another.
-ghost use Rattle.std.specs.Prelude.{◌≡◌, ◌≢◌, ◌≤◌, IfOk, OnErr, Some};
+ghost use Rattle.std.specs.Prelude.{◌≡◌, ◌≢◌, ◌≤◌, IfOk, OnErr};
 ghost use Rattle.osm_host.specs.Moments.{moment};
-ghost use Rattle.osm_run.specs.Copying.{copied};
-ghost use Rattle.osm_run.specs.Outcome.{IsOutcome};
-ghost use Rattle.osm_run.specs.Plan.{copy_plan};
-ghost use Rattle.osm_run.specs.Pulling.{GaveUnheld};
+ghost use Rattle.osm_run.specs.Copying.{copy_command};
+ghost use Rattle.osm_run.specs.Outcome.{IsRun};
+ghost use Rattle.osm_run.specs.Pulling.{PulledSome};
 ghost use Rattle.osm_run.specs.Tasks.{TasksRan};
 ghost use Rattle.osm_run.specs.Faults.{opening_fault, entry_of, fault_by, fault_before};
 ghost use Rattle.osm_run.specs.Codes.{code_of};
@@ -24,7 +23,7 @@ pub struct Ran {
     /// Whether the source answered its end.
     pub clean: bool,
     /// Whether a put failed.
-    pub unput: bool,
+    pub put_failed: bool,
 }
 
 /// Runs the two tasks of a copy: all items of the source go to the sink. `given` counts what the
@@ -42,12 +41,12 @@ fn copy_items<S: Source, K: Sink>(
     ensures ran { IfOk result
         (TasksRan S.rest S.given S.faults source.old source.new
         K.taken K.faults sink.old sink.new given.new) }
-    ensures err { OnErr result (GaveUnheld S.rest S.given source.old source.new given.new) }
+    ensures err { OnErr result (PulledSome S.rest S.given source.old source.new given.new) }
     ensures pulls { S.faults source.old ≤ S.faults source.new }
     ensures puts { K.faults sink.old ≤ K.faults sink.new }
 {
     let read = read_source(alloc, source, given)?;
-    let unput = match put_items(alloc, sink, read.items.as_slice()) {
+    let put_failed = match put_items(alloc, sink, read.items.as_slice()) {
         Ok(()) => false,
         Err(HostError::Failed) => true,
         Err(HostError::Memory) => return Err(NoMemory),
@@ -55,14 +54,14 @@ fn copy_items<S: Source, K: Sink>(
     Ok(Ran {
         reader: read.verdict,
         clean: read.clean,
-        unput,
+        put_failed,
     })
 }
 
 /// Copies the items of the file `from` to the file `to`, and answers the status of that run.
 pub fn copy_file<H: Host>(alloc: Global, from: &Text, to: &Text, host: &mut H) -> Status
     requires { from.now ≢ to.now }
-    ensures outcome { IsOutcome (Some (copy_plan from.now to.now)) copied
+    ensures run { IsRun (copy_command from.now to.now)
         (moment H.files H.said H.mute H.count H.gave H.known host.old)
         (moment H.files H.said H.mute H.count H.gave H.known host.new) result }
     ensures code { result.code ≡ code_of result.fault }
@@ -106,7 +105,7 @@ fn not_opened(task: u32, refusal: HostError) -> Fault
     }
 }
 
-// The entry of the reader, after its tasks ran or memory was wanted.
+// The entry of the reader, after its tasks ran or was out of memory.
 fn source_end(given: u64, ran: Result<Ran, NoMemory>) -> SourceEnd
     ensures { result ≡ entry_of given ran }
 {
@@ -120,7 +119,7 @@ fn source_end(given: u64, ran: Result<Ran, NoMemory>) -> SourceEnd
     }
 }
 
-// The fault of a copy: the reader's before the writer's, the writer's before the keep's, and want
+// The fault of a copy: the reader's before the writer's, the writer's before the keep's, and out
 // of memory before all.
 fn fault_after(ran: Result<Ran, NoMemory>, kept: Result<(), HostError>) -> Fault
     ensures { result ≡ fault_by ran kept }
@@ -157,7 +156,7 @@ fn fault_of_tasks(ran: Ran, left: Fault) -> Fault
             call: DeviceCall::Read,
         },
         _ => {
-            if ran.unput {
+            if ran.put_failed {
                 Fault::Device {
                     task: 1,
                     call: DeviceCall::Write,

@@ -2,7 +2,7 @@
 ghost use Rattle.std.specs.Prelude.{◌≡◌, ◌≤◌, ◌↔◌, IfOk, IsTrue, OnErr, OnOk};
 ghost use Rattle.osm_entity.specs.declared.verdict.Verdict.TheVariants.{Running};
 ghost use Rattle.osm_opl.specs.Reader.{CanPull, SameSource};
-ghost use Rattle.osm_run.specs.Pulling.{GaveUnheld};
+ghost use Rattle.osm_run.specs.Pulling.{PulledSome};
 ghost use Rattle.osm_run.specs.Reading.{GaveMore, IsPulled, IsReadOut, ItemsRead};
 
 use osm_entity::{Flow, Items, NoMemory, Verdict};
@@ -36,7 +36,7 @@ pub fn read_source<S: Source>(
     ensures read { IfOk result
         (λ r. ItemsRead S.rest S.given S.faults source.old source.new given.new
         r.clean r.verdict r.items) }
-    ensures err { OnErr result (GaveUnheld S.rest S.given source.old source.new given.new) }
+    ensures err { OnErr result (PulledSome S.rest S.given source.old source.new given.new) }
     ensures later { S.faults source.old ≤ S.faults source.new }
 {
     let mut reader = OplReader::new(alloc, Flow::Entities, SOURCE_LIMIT)?;
@@ -62,7 +62,7 @@ fn pull_items<S: Source>(
     ensures name { S.name source.new ≡ S.name source.old }
     ensures ok { OnOk result (IsReadOut S.rest S.given S.faults source.old source.new given.new
         reader.new items.new) }
-    ensures err { OnErr result (GaveUnheld S.rest S.given source.old source.new given.new) }
+    ensures err { OnErr result (PulledSome S.rest S.given source.old source.new given.new) }
     ensures later { S.faults source.old ≤ S.faults source.new }
 {
     for _turn in 0..SOURCE_LIMIT + 1 {

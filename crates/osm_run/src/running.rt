@@ -1,11 +1,10 @@
 //! The run of a command line on one thread.
-ghost use Rattle.std.specs.Prelude.{◌≡◌, ◌≢◌, IsTrue, Some};
+ghost use Rattle.std.specs.Prelude.{◌≡◌, ◌≢◌, IsTrue};
 ghost use Rattle.osm_host.specs.Moments.{moment};
-ghost use Rattle.osm_run.specs.Causes.{CleanCause, InputCause, KeepCause, NotBuiltCause, OpenCause, ReadCause, TooLongCause, UncleanCause, WriteCause};
 ghost use Rattle.osm_run.specs.Codes.{code_of};
-ghost use Rattle.osm_run.specs.Copying.{copied};
-ghost use Rattle.osm_run.specs.Outcome.{IsOutcome};
-ghost use Rattle.osm_run.specs.Plan.{copy_plan, name_in, names_file, plan_of};
+ghost use Rattle.osm_run.specs.Copying.{IsCopyRun, copy_command};
+ghost use Rattle.osm_run.specs.Outcome.{IsRun};
+ghost use Rattle.osm_run.specs.Words.{name_in, names_file};
 
 use crate::copying::copy_file;
 use crate::status::{Ends, Fault, Status};
@@ -26,37 +25,8 @@ pub fn run_alone<H: Host, L: Ledger>(
     host: &mut H,
     _steps: &mut Steps<L>,
 ) -> Status
-    ensures outcome { IsOutcome (plan_of words.now) copied
-        (moment H.files H.said H.mute H.count H.gave H.known host.old)
+    ensures { IsCopyRun words.now (moment H.files H.said H.mute H.count H.gave H.known host.old)
         (moment H.files H.said H.mute H.count H.gave H.known host.new) result }
-    ensures code { result.code ≡ code_of result.fault }
-
-    // What has to be so for each answer to come.
-    ensures not_built { NotBuiltCause (plan_of words.now) result }
-    ensures open { OpenCause (plan_of words.now)
-        (moment H.files H.said H.mute H.count H.gave H.known host.old)
-        (moment H.files H.said H.mute H.count H.gave H.known host.new) result }
-    ensures read { ReadCause (plan_of words.now)
-        (moment H.files H.said H.mute H.count H.gave H.known host.old)
-        (moment H.files H.said H.mute H.count H.gave H.known host.new) result }
-    ensures write { WriteCause (plan_of words.now)
-        (moment H.files H.said H.mute H.count H.gave H.known host.old)
-        (moment H.files H.said H.mute H.count H.gave H.known host.new) result }
-    ensures keep { KeepCause (plan_of words.now)
-        (moment H.files H.said H.mute H.count H.gave H.known host.old)
-        (moment H.files H.said H.mute H.count H.gave H.known host.new) result }
-    ensures input { InputCause (plan_of words.now) copied
-        (moment H.files H.said H.mute H.count H.gave H.known host.old) result }
-    ensures too_long { TooLongCause result }
-    ensures clean { CleanCause (moment H.files H.said H.mute H.count H.gave H.known host.old)
-        (moment H.files H.said H.mute H.count H.gave H.known host.new) result }
-    ensures unclean { UncleanCause (plan_of words.now)
-        (moment H.files H.said H.mute H.count H.gave H.known host.old)
-        (moment H.files H.said H.mute H.count H.gave H.known host.new) result }
-
-    // What stays.
-    ensures said { H.said host.new ≡ H.said host.old }
-    ensures mute { H.mute host.new ≡ H.mute host.old }
 {
     match copied_words(words) {
         Some((from, to)) => copy_named(alloc, from, to, host),
@@ -69,7 +39,7 @@ fn copy_named<H: Host>(alloc: Global, from: &Text, to: &Text, host: &mut H) -> S
     requires from { IsTrue (names_file from.now) }
     requires to { IsTrue (names_file to.now) }
     requires differ { name_in from.now ≢ name_in to.now }
-    ensures outcome { IsOutcome (Some (copy_plan (name_in from.now) (name_in to.now))) copied
+    ensures run { IsRun (copy_command (name_in from.now) (name_in to.now))
         (moment H.files H.said H.mute H.count H.gave H.known host.old)
         (moment H.files H.said H.mute H.count H.gave H.known host.new) result }
     ensures code { result.code ≡ code_of result.fault }

@@ -14,6 +14,8 @@ pub enum DeviceCall {
     Write,
     /// Keeping what was written.
     Keep,
+    /// A call of a scratch store. No task that is built has one yet.
+    Spill,
 }
 
 /// What ended a run, or came first among its tasks. Tasks are counted from 0.
@@ -25,11 +27,11 @@ pub enum Fault {
     NotBuilt { task: u32 },
     /// The input of a task is wrong.
     Input { task: u32, cause: Cause, spot: Spot },
-    /// The source of a reader gave more bytes than its limit, and those up to it are right.
+    /// A file gave more bytes than its limit, and those up to it are right.
     TooLong { task: u32 },
     /// A device failed.
     Device { task: u32, call: DeviceCall },
-    /// Memory was wanted, and there was none.
+    /// Out of memory.
     Memory,
 }
 
@@ -63,7 +65,7 @@ pub type Ends = Sequence<SourceEnd>;
 /// The status of a run.
 #[derive(Debug, Drop)]
 pub struct Status {
-    /// 0 clean, 2 a refused command, 4 a wrong input, 5 a failed device, 6 want of memory.
+    /// 0 clean, 2 a refused command, 4 a wrong input, 5 a failed device, 6 out of memory.
     pub code: u8,
     pub fault: Fault,
     pub ends: Ends,

@@ -1,6 +1,7 @@
 //! The words of the one command that is built: a copy of one OPL file to another.
 ghost use Rattle.std.specs.Prelude.{◌≡◌, ◌≢◌, IfOk, IfSome, IfNone, IsTrue, Some, None};
-ghost use Rattle.osm_run.specs.Plan.{are_copy, copy_plan, name_in, names_file, plan_of};
+ghost use Rattle.osm_run.specs.Copying.{command_of, copy_command};
+ghost use Rattle.osm_run.specs.Words.{are_copy, name_in, names_file};
 
 use osm_entity::{NoMemory, Text, TextError};
 use std::alloc::Global;
@@ -11,11 +12,11 @@ const FILE: &[u8] = b"file=";
 /// The two words that give the files, where the words are those of a copy; `None` for all others.
 pub fn copied_words(words: &[Text]) -> Option<(&Text, &Text)>
     ensures some { IfSome result
-        (λ p. plan_of words.now ≡ Some (copy_plan (name_in p.0.now) (name_in p.1.now))) }
+        (λ p. command_of words.now ≡ Some (copy_command (name_in p.0.now) (name_in p.1.now))) }
     ensures from { IfSome result (λ p. IsTrue (names_file p.0.now)) }
     ensures to { IfSome result (λ p. IsTrue (names_file p.1.now)) }
     ensures differ { IfSome result (λ p. name_in p.0.now ≢ name_in p.1.now) }
-    ensures none { IfNone result (plan_of words.now ≡ None) }
+    ensures none { IfNone result (command_of words.now ≡ None) }
 {
     match words {
         [read, from, write, to] => {
