@@ -1,5 +1,4 @@
 //! The words that every other crate speaks: texts and lists, entities and items, streams of
-//! messages, the verdicts of tasks, and a count of steps.
 #![tactic(auto)]
 
 mod duplicating;
@@ -10,6 +9,7 @@ mod laws;
 mod parts;
 mod sequence;
 mod steps;
+mod storage;
 mod stream;
 #[cfg(test)]
 mod tests;
