@@ -1,6 +1,6 @@
 -- The outcome of a run: how the host and the status after it stand to the command and the host before it.
 -- Here the whole run is one relation between two moments; the code goes through it call by call.
-use Rattle.std.specs.Prelude.{ℕ, ◌≡◌, ◌≤◌, ◌⊎◌, List, [], Option, Some, None}
+use Rattle.std.specs.Prelude.{ℕ, ◌≡◌, ◌≤◌, List, [], Option, Some, None}
 use Rattle.std.specs.Io.KnownBytes.{append_known}
 use Rattle.osm_host.specs.Counts.{Rose}
 use Rattle.osm_host.specs.Moments.{Moment}
@@ -10,7 +10,6 @@ use Rattle.osm_run.specs.Course.{Course}
 use Rattle.osm_run.specs.HowFar.{HowFar}
 use Rattle.osm_run.specs.OnHost.{IsCourse}
 use Rattle.osm_run.specs.declared.status.Fault.{Fault}
-use Rattle.osm_run.specs.declared.status.Fault.TheVariants.{Memory}
 use Rattle.osm_run.specs.declared.status.Status.{Status}
 
 -- a run of a command: one course, and how far it came
@@ -26,9 +25,9 @@ pub record IsUnchanged (before after : Moment) : Type 0 where
   pub gave : (n : List ℕ) → after.gave n ≡ before.gave n
   pub known : after.known ≡ before.known
 
--- words that were refused changed nothing
+-- words that were refused changed nothing, and the fault is one with which they may be refused
 pub record AfterRefusal (refused : Fault → Type 0) (before after : Moment) (status : Status) : Type 0 where
-  pub fault : refused status.fault ⊎ (status.fault ≡ Memory)
+  pub fault : refused status.fault
   pub ends : status.ends ≡ []
   pub same : IsUnchanged before after
 
