@@ -1,5 +1,5 @@
 //! Copies the items of one file to another.
-ghost use Rattle.std.specs.Prelude.{◌≡◌, ◌≢◌, ◌≤◌, IfOk, OnErr};
+ghost use Rattle.std.specs.Prelude.{◌≡◌, ◌≢◌, IfOk, OnErr};
 ghost use Rattle.osm_host.specs.Moments.{moment};
 ghost use Rattle.osm_run.specs.Copying.{copy_command};
 ghost use Rattle.osm_run.specs.Outcome.{IsRun};
@@ -42,8 +42,6 @@ fn copy_items<S: Source, K: Sink>(
         (TasksRan S.rest S.given S.faults source.old source.new
         K.taken K.faults sink.old sink.new given.new) }
     ensures err { OnErr result (PulledSome S.rest S.given source.old source.new given.new) }
-    ensures pulls { S.faults source.old ≤ S.faults source.new }
-    ensures puts { K.faults sink.old ≤ K.faults sink.new }
 {
     let read = read_source(alloc, source, given)?;
     let put_failed = match put_items(alloc, sink, read.items.as_slice()) {

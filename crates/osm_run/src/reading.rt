@@ -1,5 +1,5 @@
 //! Reads the items of a source, pull by pull.
-ghost use Rattle.std.specs.Prelude.{◌≡◌, ◌≤◌, ◌↔◌, IfOk, IsTrue, OnErr, OnOk};
+ghost use Rattle.std.specs.Prelude.{◌≡◌, ◌↔◌, IfOk, IsTrue, OnErr, OnOk};
 ghost use Rattle.osm_entity.specs.declared.verdict.Verdict.TheVariants.{Running};
 ghost use Rattle.osm_opl.specs.Reader.{CanPull, SameSource};
 ghost use Rattle.osm_run.specs.Pulling.{PulledSome};
@@ -37,7 +37,6 @@ pub fn read_source<S: Source>(
         (λ r. ItemsRead S.rest S.given S.faults source.old source.new given.new
         r.clean r.verdict r.items) }
     ensures err { OnErr result (PulledSome S.rest S.given source.old source.new given.new) }
-    ensures later { S.faults source.old ≤ S.faults source.new }
 {
     let mut reader = OplReader::new(alloc, Flow::Entities, SOURCE_LIMIT)?;
     let mut items = Items::new(alloc);
@@ -63,7 +62,6 @@ fn pull_items<S: Source>(
     ensures ok { OnOk result (IsReadOut S.rest S.given S.faults source.old source.new given.new
         reader.new items.new) }
     ensures err { OnErr result (PulledSome S.rest S.given source.old source.new given.new) }
-    ensures later { S.faults source.old ≤ S.faults source.new }
 {
     for _turn in 0..SOURCE_LIMIT + 1 {
         reader.pull(source)?;
