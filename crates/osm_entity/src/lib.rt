@@ -22,7 +22,7 @@ mod weighing;
 pub use entity::Entity;
 pub use item::{Act, Item, Items};
 pub use kind::{Flow, Key, Kind};
-pub use laws::before_is_an_order;
+pub use laws::{before_is_an_order, keys_have_one_order};
 pub use options::{AreaOptions, Resolution, TagTest, TagTests, Texts};
 pub use parts::{Body, Member, Members, Place, Refs, Tag, Tags};
 pub use sequence::{Bytes, NoMemory, Sequence};
