@@ -1,4 +1,5 @@
 pub mod Ascii
+pub mod Counts
 pub mod Entities
 pub mod Items
 pub mod Keys

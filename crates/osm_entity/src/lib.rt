@@ -30,4 +30,4 @@ pub use steps::Steps;
 pub use stream::{End, Message, Want};
 pub use text::{Text, TextError};
 pub use verdict::{Cause, Spot, Verdict};
-pub use weighing::weight;
+pub use weighing::{weight, GREATEST_WEIGHT};
