@@ -8,3 +8,4 @@ pub mod Readings
 pub mod Seen
 pub mod Storage
 pub mod Streams
+pub mod Writable

@@ -4,6 +4,7 @@
 
 mod duplicating;
 mod entity;
+mod holding;
 mod item;
 mod kind;
 mod laws;
@@ -30,4 +31,4 @@ pub use steps::Steps;
 pub use stream::{End, Message, Want};
 pub use text::{Text, TextError};
 pub use verdict::{Cause, Spot, Verdict};
-pub use weighing::{weight, GREATEST_WEIGHT};
+pub use weighing::{GREATEST_WEIGHT, weight};
