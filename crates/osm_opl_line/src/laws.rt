@@ -2,7 +2,8 @@
 ghost use Rattle.std.specs.Prelude.{◌≡◌, All, true};
 ghost use Rattle.osm_entity.specs.Streams.{Stream};
 ghost use Rattle.osm_entity.specs.declared.kind.Flow.{Flow};
-ghost use Rattle.osm_opl_line.specs.Reading.{Whole, opl_reading};
+ghost use Rattle.osm_entity.specs.Readings.{Whole};
+ghost use Rattle.osm_opl_line.specs.Reading.{opl_reading};
 ghost use Rattle.osm_opl_line.specs.Writable.{IsWritable};
 ghost use Rattle.osm_opl_line.specs.Writing.{opl_text};
 
