@@ -5,4 +5,5 @@ pub mod Keys
 pub mod Meaning
 pub mod Readings
 pub mod Seen
+pub mod Storage
 pub mod Streams
