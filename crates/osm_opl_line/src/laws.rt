@@ -4,7 +4,7 @@ ghost use Rattle.osm_entity.specs.Streams.{Stream};
 ghost use Rattle.osm_entity.specs.declared.kind.Flow.{Flow};
 ghost use Rattle.osm_entity.specs.Readings.{Whole};
 ghost use Rattle.osm_opl_line.specs.Reading.{opl_reading};
-ghost use Rattle.osm_opl_line.specs.Writable.{IsWritable};
+ghost use Rattle.osm_entity.specs.Writable.{IsWritable};
 ghost use Rattle.osm_opl_line.specs.Writing.{opl_text};
 
 use osm_text::{escaped_reads_back, nano_reads_back, time_reads_back, whole_reads_back};
