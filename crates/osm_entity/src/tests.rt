@@ -13,6 +13,8 @@ fn bytes_that_are_utf_8_are_a_text(rt: HostRuntime) -> Result<(), Fail> {
     let table = [
         (b"".as_slice(), true),
         (b"amenity".as_slice(), true),
+        (b"addr:interpolation:num".as_slice(), true),
+        (b"addr:interpolation:nums".as_slice(), true),
         ("na\u{ef}ve \u{20ac} \u{1f5fa}".as_bytes(), true),
         (b"\x80".as_slice(), false),
         (b"a\xc3".as_slice(), false),

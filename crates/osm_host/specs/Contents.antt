@@ -1,6 +1,6 @@
 -- What files, sources and sinks hold, where it is told: `None` tells nothing.
 -- Here files are one finite map; the code of a host keeps them as it likes.
-use Rattle.std.specs.Prelude.{◌≡◌, ℕ, ◌≤◌, List, [], length, take, false, ⊤, Option, Some, None, Ok, Err}
+use Rattle.std.specs.Prelude.{◌≡◌, ℕ, ◌≤◌, List, [], length, take, false, ⊤, Option, Some, None, IfSome, Ok, Err}
 use Rattle.std.specs.FinMap as map
 use Rattle.std.specs.Option.{option_map}
 use Rattle.std.specs.Ordering.{nat_cmp}
@@ -21,9 +21,9 @@ abbrev pub IsContent : Option Files → List ℕ → Option (List ℕ) → Type 
 IsContent None name rest = ⊤
 IsContent (Some files) name rest = (bytes : List ℕ) × (map.get files name ≡ Some bytes) × (rest ≡ Some bytes)
 
--- where files are told, nothing was taken yet, and that is told too
+-- what a new sink tells that it took is nothing, and where files are told it tells
 abbrev pub IsEmptyWhereTold : Option Files → Option (List ℕ) → Type 0
-IsEmptyWhereTold None taken = ⊤
+IsEmptyWhereTold None taken = IfSome taken (λ bytes. bytes ≡ [])
 IsEmptyWhereTold (Some files) taken = taken ≡ Some []
 
 -- the files with these bytes under this name

@@ -164,7 +164,8 @@ pub trait Host {
         ensures gave { GaveOnly name.now (Self.In.given source) (gave self.old) (gave self.new) }
         ensures known { known self.new ≡ known self.old };
 
-    /// Makes the file of this name empty, and opens it to be written.
+    /// Makes the file of this name empty, and opens it to be written. The new sink took nothing yet:
+    /// what it tells of its bytes is empty, and it tells them where the host tells its files.
     fn open_sink(&mut self, name: &Text) -> Result<Self::Out, HostError>
         ensures name { IfOk result (λ k. Self.Out.name k ≡ name.now) }
         ensures taken { IfOk result (λ k. IsEmptyWhereTold (files self.old) (Self.Out.taken k)) }
