@@ -1,4 +1,5 @@
 pub mod Ascii
+pub mod Counts
 pub mod Entities
 pub mod Items
 pub mod Keys
@@ -7,3 +8,4 @@ pub mod Readings
 pub mod Seen
 pub mod Storage
 pub mod Streams
+pub mod Writable

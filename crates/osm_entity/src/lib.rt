@@ -4,6 +4,7 @@
 
 mod duplicating;
 mod entity;
+mod holding;
 mod item;
 mod kind;
 mod laws;
@@ -22,7 +23,7 @@ mod weighing;
 pub use entity::Entity;
 pub use item::{Act, Item, Items};
 pub use kind::{Flow, Key, Kind};
-pub use laws::before_is_an_order;
+pub use laws::{before_is_an_order, keys_have_one_order};
 pub use options::{AreaOptions, Resolution, TagTest, TagTests, Texts};
 pub use parts::{Body, Member, Members, Place, Refs, Tag, Tags};
 pub use sequence::{Bytes, NoMemory, Sequence};
@@ -30,4 +31,4 @@ pub use steps::Steps;
 pub use stream::{End, Message, Want};
 pub use text::{Text, TextError};
 pub use verdict::{Cause, Spot, Verdict};
-pub use weighing::weight;
+pub use weighing::{GREATEST_WEIGHT, weight};
