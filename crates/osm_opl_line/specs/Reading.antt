@@ -1,8 +1,7 @@
 -- What an OPL file says: its items up to its first bad line, and how the reading ends.
 -- Here the whole file is cut at once at its newlines; the code goes from line to line.
-use Rattle.std.specs.Prelude.{ℕ, ◌+◌, List, [], ◌∷◌, ◌++◌, length, Bool, true, false, ◌&&◌, ◌||◌, ◌==◌, nat_lt, if◌then◌else◌}
+use Rattle.std.specs.Prelude.{ℕ, ◌+◌, List, [], ◌∷◌, length, Bool, ◌&&◌, ◌||◌, ◌==◌, nat_lt, if◌then◌else◌}
 use Rattle.std.specs.List.{slice_split}
-use Rattle.osm_entity.specs.Items.{ItemValue}
 use Rattle.osm_entity.specs.Readings.{Reading, Bad as BadAt, ending_of}
 use Rattle.osm_entity.specs.declared.kind.Flow.{Flow}
 use Rattle.osm_entity.specs.declared.verdict.Spot.TheVariants.{Line}
