@@ -1,1 +1,4 @@
+pub mod GrowthLemmas
+pub mod PortLemmas
+pub mod PrefixLemmas
 mod StreamLemmas

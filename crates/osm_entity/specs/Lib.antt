@@ -1,8 +1,11 @@
 pub mod Ascii
 pub mod Entities
+pub mod Growth
 pub mod Items
 pub mod Keys
 pub mod Meaning
+pub mod Ports
+pub mod Prefixes
 pub mod Readings
 pub mod Seen
 pub mod Streams
