@@ -1,4 +1,7 @@
 pub mod GrowthLemmas
+pub mod MachineLemmas
+pub mod OneInputLemmas
+mod PassingMachine
 pub mod PortLemmas
 pub mod PrefixLemmas
 mod StreamLemmas

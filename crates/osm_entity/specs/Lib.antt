@@ -1,11 +1,15 @@
 pub mod Ascii
+pub mod Calls
 pub mod Entities
 pub mod Growth
 pub mod Items
 pub mod Keys
+pub mod Machines
 pub mod Meaning
+pub mod OneInput
 pub mod Ports
 pub mod Prefixes
 pub mod Readings
 pub mod Seen
 pub mod Streams
+pub mod Tasks
