@@ -1,4 +1,5 @@
 pub mod GrowthLemmas
+pub mod KeyLemmas
 pub mod MachineLemmas
 pub mod OneInputLemmas
 mod PassingMachine

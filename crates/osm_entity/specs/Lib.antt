@@ -1,5 +1,6 @@
 pub mod Ascii
 pub mod Calls
+pub mod Counts
 pub mod Entities
 pub mod Growth
 pub mod Items
@@ -11,5 +12,7 @@ pub mod Ports
 pub mod Prefixes
 pub mod Readings
 pub mod Seen
+pub mod Storage
 pub mod Streams
 pub mod Tasks
+pub mod Writable

@@ -1,3 +1,5 @@
 pub mod Entered
+pub mod FeedLemmas
 pub mod Held
 pub mod Named
+pub mod PullLemmas
