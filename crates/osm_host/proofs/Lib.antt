@@ -1,3 +1,4 @@
 pub mod Entered
 pub mod Held
 pub mod Named
+pub mod Planned

@@ -7,6 +7,8 @@ mod tallies;
 #[cfg(test)]
 mod tests;
 
-pub use memory::{FailAt, Fails, FileHeld, Files, MemoryHost, MemorySink, MemorySource};
+pub use memory::{
+    FailAt, Fails, FileHeld, Files, MemoryHost, MemorySink, MemorySource, calls_come_nearer,
+};
 pub use outside::{Failed, Host, HostError, Op, Sink, Source};
 pub use tallies::{Faults, Tallies, Tally};
