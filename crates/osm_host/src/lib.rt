@@ -9,6 +9,8 @@ mod tallies;
 mod tests;
 
 pub use feed::{Feed, PIECE_SIZE};
-pub use memory::{FailAt, Fails, FileHeld, Files, MemoryHost, MemorySink, MemorySource};
+pub use memory::{
+    FailAt, Fails, FileHeld, Files, MemoryHost, MemorySink, MemorySource, calls_come_nearer,
+};
 pub use outside::{Failed, Host, HostError, Op, Sink, Source};
 pub use tallies::{Faults, Tallies, Tally};

@@ -1,7 +1,7 @@
 //! Which calls of a host in memory fail: the nth of a kind on a name, counted from 1.
 ghost use Rattle.std.specs.Prelude.{◌≡◌, IfOk};
 ghost use Rattle.osm_host.specs.Counts.{is_at};
-ghost use Rattle.osm_host.specs.Plans.{is_planned, nearer, after_call};
+ghost use Rattle.osm_host.specs.Plans.{is_planned, nearer, after_call, CallsComeNearer};
 
 use crate::outside::Op;
 use osm_entity::{NoMemory, Sequence, Text};
@@ -100,3 +100,9 @@ impl Plan {
         fails
     }
 }
+
+/// After a call of a kind on a name, the nth of them from now was the one after the nth; of all
+/// other kinds and names it stays the nth. So from the plan of a new host the nth call fails.
+pub fn calls_come_nearer()
+    ensures { CallsComeNearer }
+{}
