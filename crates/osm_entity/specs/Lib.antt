@@ -1,8 +1,11 @@
 pub mod Ascii
+pub mod Counts
 pub mod Entities
 pub mod Items
 pub mod Keys
 pub mod Meaning
 pub mod Readings
 pub mod Seen
+pub mod Storage
 pub mod Streams
+pub mod Writable

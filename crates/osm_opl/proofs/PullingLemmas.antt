@@ -7,7 +7,8 @@ use Rattle.std.proofs.lemmas.List.{length-append, length-take, take_all}
 use Rattle.std.proofs.Math.Seq.{take-append-add}
 use Rattle.osm_entity.specs.Items.{ItemValue}
 use Rattle.osm_host.specs.Counts.{last_count, raised}
-use Rattle.osm_opl_line.specs.Reading.{after, opl_reading}
+use Rattle.osm_entity.specs.Readings.{after}
+use Rattle.osm_opl_line.specs.Reading.{opl_reading}
 use Rattle.osm_opl.specs.Found.{Filled}
 use Rattle.osm_opl.specs.Pulling.{FaultsOfPull, PulledOnce, feed_after}
 use Rattle.osm_opl.specs.Reader.{ReaderValue, CanPull, IsReader, is_ended}

@@ -8,7 +8,8 @@ use Rattle.std.proofs.lemmas.List.Splits.{slice_split_at, slice_split_none, leng
 use Rattle.osm_entity.specs.declared.kind.Flow.{Flow}
 use Rattle.osm_entity.specs.declared.verdict.Cause.TheVariants.{LineTooLong}
 use Rattle.osm_opl_line.specs.Line.{Bad, longest_line, opl_line}
-use Rattle.osm_opl_line.specs.Reading.{Reading, Ending, after, before, ending_of, is_line, lines_of, read_lines, opl_reading}
+use Rattle.osm_entity.specs.Readings.{Reading, Ending, after, ending_of}
+use Rattle.osm_opl_line.specs.Reading.{before, is_line, lines_of, read_lines, opl_reading}
 use Rattle.osm_opl_line.specs.Seen.{line_seen}
 use Rattle.osm_opl_line.specs.declared.reading.LineRead.{LineRead}
 use Rattle.osm_opl.specs.Found.{TookLine, IsTooLong}

@@ -9,10 +9,13 @@ use Rattle.osm_entity.specs.declared.verdict.Cause.{Cause}
 use Rattle.osm_entity.specs.declared.verdict.Verdict.{Verdict}
 use Rattle.osm_entity.specs.declared.verdict.Verdict.TheVariants.{Running, Clean, Passed, Input, Read, Write, Memory, TooLong as PastLimit}
 use Rattle.osm_opl_line.specs.Line.{LineValue, Skipped, Good, Bad}
-use Rattle.osm_opl_line.specs.Reading.{Reading, BadLine, Cut, after, before, ending_of, is_line, opl_reading}
+use Rattle.osm_entity.specs.declared.verdict.Spot.{Spot}
+use Rattle.osm_entity.specs.declared.verdict.Spot.TheVariants.{Line}
+use Rattle.osm_entity.specs.Readings.{Reading, Bad as BadAt, Cut, after, ending_of, verdict_read}
+use Rattle.osm_opl_line.specs.Reading.{before, is_line, opl_reading}
 use Rattle.osm_opl.specs.Reader.{ReaderValue, CanPull, is_ended, verdict_after}
 use Rattle.osm_opl.specs.Passing.{HasNoLine, SameRest, TakesLine, is_bad, item_in, items_in, passed}
-use Rattle.osm_opl.specs.Standing.{ComeFirst, FitsFeed, GaveItems, MayCome, Stands, reading_from, reader_reading, reader_verdict}
+use Rattle.osm_opl.specs.Standing.{ComeFirst, FitsFeed, GaveItems, MayCome, Stands, reading_from, reader_reading}
 use Rattle.osm_opl.specs.Unread.{UnreadValue, HasNoNewline, unread_bytes}
 use Rattle.osm_opl.specs.declared.feed.Feed.{Feed}
 use Rattle.osm_opl.specs.declared.feed.Feed.TheVariants.{Open, Ended, Failed, TooLong}
@@ -57,8 +60,8 @@ reading_now r bytes came items s run =
     ∙ s.running run [] came (may_end r.feed came s.ended)
 
 -- a reading that ends at a bad line isn't cut off
-bad_not_cut : (cause : Cause) (number : ℕ) → BadLine cause number ≡ Cut → ⊥
-bad_not_cut cause number cut = cc
+bad_not_cut : (cause : Cause) (spot : Spot) → BadAt cause spot ≡ Cut → ⊥
+bad_not_cut cause spot cut = cc
 
 -- a line that came off is passed
 passes : (old : ReaderValue) (unread : UnreadValue) (value : LineValue) → old.verdict ≡ Running →
@@ -97,8 +100,8 @@ passes old unread (Bad cause) run reads = λ bytes came items s.
       running = λ runs. cc;
       over = λ not. record {
         all = ap (λ r. r.items) is;
-        verdict = ap (λ r. reader_verdict old.limit (length bytes) r.ending) (sym is);
-        stopped = λ cut. absurd (bad_not_cut cause (old.lines + 1) (sym (ap (λ r. r.ending) is) ∙ cut));
+        verdict = ap (λ r. verdict_read old.limit (length bytes) r.ending) (sym is);
+        stopped = λ cut. absurd (bad_not_cut cause (Line (old.lines + 1)) (sym (ap (λ r. r.ending) is) ∙ cut));
       };
     }
 
@@ -111,7 +114,7 @@ gave_passed old mid value run takes =
 
 -- the verdict where no line is left
 verdict_settled : (feed : Feed) (limit count : ℕ) → (verdict_after feed ≡ Running → ⊥) → FitsFeed feed limit count →
-    verdict_after feed ≡ reader_verdict limit count (ending_of (is_ended feed))
+    verdict_after feed ≡ verdict_read limit count (ending_of (is_ended feed))
 verdict_settled Open limit count not fits = absurd (not refl)
 verdict_settled Ended limit count not fits = refl
 verdict_settled Failed limit count not fits = rw (le-ltb limit count fits) refl
@@ -135,8 +138,8 @@ settles old unread run same free none = λ bytes came items s.
       over = λ not. record {
         all = ap (λ r. r.items) is;
         verdict = verdict_settled old.feed old.limit (length bytes) not s.fits
-            ∙ ap (λ end. reader_verdict old.limit (length bytes) (ending_of end)) (sym s.ended)
-            ∙ ap (λ r. reader_verdict old.limit (length bytes) r.ending) (sym is);
+            ∙ ap (λ end. verdict_read old.limit (length bytes) (ending_of end)) (sym s.ended)
+            ∙ ap (λ r. verdict_read old.limit (length bytes) r.ending) (sym is);
         stopped = λ cut still. not (ap verdict_after still);
       };
     }

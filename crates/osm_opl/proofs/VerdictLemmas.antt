@@ -7,9 +7,10 @@ use Rattle.osm_entity.specs.Items.{ItemValue}
 use Rattle.osm_entity.specs.declared.kind.Flow.{Flow}
 use Rattle.osm_entity.specs.declared.verdict.Verdict.TheVariants.{Running, Clean, Read, TooLong as PastLimit}
 use Rattle.osm_opl_line.specs.Line.{LineValue, Skipped, Good, Bad, opl_line}
-use Rattle.osm_opl_line.specs.Reading.{Reading, Ending, Whole, Cut, BadLine, before, lines_of, read_lines, opl_reading}
+use Rattle.osm_entity.specs.Readings.{Reading, Ending, Whole, Cut, Bad as BadAt, verdict_read}
+use Rattle.osm_opl_line.specs.Reading.{before, lines_of, read_lines, opl_reading}
 use Rattle.osm_opl.specs.Reader.{ReaderValue, is_ended}
-use Rattle.osm_opl.specs.Standing.{FitsFeed, Stands, reader_reading, reader_verdict}
+use Rattle.osm_opl.specs.Standing.{FitsFeed, Stands, reader_reading}
 use Rattle.osm_opl.proofs.ReadingLemmas.{is_ended-true}
 use Rattle.osm_opl.specs.declared.feed.Feed.{Feed}
 use Rattle.osm_opl.specs.declared.feed.Feed.TheVariants.{Open, Ended, Failed, TooLong}
@@ -18,7 +19,7 @@ use Rattle.osm_opl.specs.declared.feed.Feed.TheVariants.{Open, Ended, Failed, To
 abbrev pub EndsBy : Bool → Ending → Type 0
 EndsBy clean Whole = clean ≡ true
 EndsBy clean Cut = clean ≡ false
-EndsBy clean (BadLine cause line) = Unit {0}
+EndsBy clean (BadAt cause spot) = Unit {0}
 
 -- a line more doesn't change that
 ends_by-before : (clean : Bool) (number : ℕ) (value : LineValue) (reading : Reading) → EndsBy clean reading.ending →
@@ -43,11 +44,11 @@ ends_by flow bytes clean = ends_by-lines flow clean 1 (lines_of clean (slice_spl
 
 -- a clean verdict is that of a whole file, whose end came
 clean_by : (feed : Feed) (limit count : ℕ) (ending : Ending) → EndsBy (is_ended feed) ending →
-    Clean ≡ reader_verdict limit count ending → feed ≡ Ended
+    Clean ≡ verdict_read limit count ending → feed ≡ Ended
 clean_by feed limit count Whole ends is = is_ended-true feed ends
 clean_by feed limit count Cut ends is =
     cond_both (nat_lt limit count) PastLimit Read (λ v. Clean ≡ v → feed ≡ Ended) (λ _ e. cc) (λ _ e. cc) is
-clean_by feed limit count (BadLine cause line) ends is = cc
+clean_by feed limit count (BadAt cause spot) ends is = cc
 
 -- a source that is done with, without its end and within the limit, failed
 failed_by : (feed : Feed) (limit count : ℕ) → is_ended feed ≡ false → FitsFeed feed limit count → feed ≢ Open →
@@ -66,21 +67,21 @@ long_by TooLong limit count fits past = refl
 
 -- the verdict that a source failed is that of a file cut off within the limit
 read_by : (feed : Feed) (limit count : ℕ) (ending : Ending) → EndsBy (is_ended feed) ending →
-    FitsFeed feed limit count → (ending ≡ Cut → feed ≢ Open) → Read ≡ reader_verdict limit count ending → feed ≡ Failed
+    FitsFeed feed limit count → (ending ≡ Cut → feed ≢ Open) → Read ≡ verdict_read limit count ending → feed ≡ Failed
 read_by feed limit count Whole ends fits stopped is = cc
 read_by feed limit count Cut ends fits stopped is =
     cond_both (nat_lt limit count) PastLimit Read (λ v. Read ≡ v → feed ≡ Failed) (λ _ e. cc)
     (λ within e. failed_by feed limit count ends fits (stopped refl) (ltb-false limit count within)) is
-read_by feed limit count (BadLine cause line) ends fits stopped is = cc
+read_by feed limit count (BadAt cause spot) ends fits stopped is = cc
 
 -- the verdict that a source gave too much is that of a file cut off past the limit
 too_long_by : (feed : Feed) (limit count : ℕ) (ending : Ending) → FitsFeed feed limit count →
-    PastLimit ≡ reader_verdict limit count ending → feed ≡ TooLong
+    PastLimit ≡ verdict_read limit count ending → feed ≡ TooLong
 too_long_by feed limit count Whole fits is = cc
 too_long_by feed limit count Cut fits is =
     cond_both (nat_lt limit count) PastLimit Read (λ v. PastLimit ≡ v → feed ≡ TooLong)
     (λ past e. long_by feed limit count fits (ltb-true limit count past)) (λ _ e. cc) is
-too_long_by feed limit count (BadLine cause line) fits is = cc
+too_long_by feed limit count (BadAt cause spot) fits is = cc
 
 -- how the reading for which a reader stands may end
 stands_ends : (r : ReaderValue) (bytes : List ℕ) (came : Bool) (items : List ItemValue) → Stands r bytes came items →

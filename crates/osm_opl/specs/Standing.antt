@@ -8,7 +8,8 @@ use Rattle.osm_entity.specs.declared.verdict.Spot.TheVariants.{Line}
 use Rattle.osm_entity.specs.declared.verdict.Verdict.{Verdict}
 use Rattle.osm_entity.specs.declared.verdict.Verdict.TheVariants.{Running, Clean, Read, Input, TooLong as PastLimit}
 use Rattle.osm_host.specs.Counts.{raised}
-use Rattle.osm_opl_line.specs.Reading.{Reading, Ending, Whole, Cut, BadLine, after, lines_of, read_lines, opl_reading}
+use Rattle.osm_entity.specs.Readings.{Reading, Cut, after, verdict_read}
+use Rattle.osm_opl_line.specs.Reading.{lines_of, read_lines, opl_reading}
 use Rattle.osm_opl.specs.Reader.{ReaderValue, is_ended}
 use Rattle.osm_opl.specs.Unread.{unread_bytes}
 use Rattle.osm_opl.specs.declared.feed.Feed.{Feed}
@@ -22,12 +23,6 @@ reading_from flow number bytes clean =
 -- the reading of the bytes that a source gave, up to the limit of their reader
 abbrev pub reader_reading : ReaderValue → List ℕ → Bool → Reading
 reader_reading r bytes came = opl_reading r.flow (take r.limit bytes) came
-
--- the verdict of a reader whose source gave so many bytes, by the ending of their reading
-abbrev pub reader_verdict : ℕ → ℕ → Ending → Verdict
-reader_verdict limit count Whole = Clean
-reader_verdict limit count Cut = if nat_lt limit count then PastLimit else Read
-reader_verdict limit count (BadLine cause line) = Input cause (Line line)
 
 -- what may come yet of a source: any bytes, or nothing after its end, its failure or too much
 abbrev pub MayCome : Feed → List ℕ → Bool → Type 0
@@ -52,7 +47,7 @@ GoesOn r bytes items =
 -- the reading is these items, and the verdict is that of its ending; a source that is open doesn't cut it off
 pub record IsOver (r : ReaderValue) (bytes : List ℕ) (came : Bool) (items : List ItemValue) : Type 0 where
   pub all : (reader_reading r bytes came).items ≡ items
-  pub verdict : r.verdict ≡ reader_verdict r.limit (length bytes) (reader_reading r bytes came).ending
+  pub verdict : r.verdict ≡ verdict_read r.limit (length bytes) (reader_reading r bytes came).ending
   pub stopped : (reader_reading r bytes came).ending ≡ Cut → r.feed ≢ Open
 
 -- a reader stands for all bytes that its source gave, for whether their end came, and for the items that it gave

@@ -20,7 +20,7 @@ use Rattle.osm_opl_line.specs.Contents.{kind_by}
 use Rattle.osm_opl_line.specs.Fields.{Fields, fields_from, fault_among}
 use Rattle.osm_opl_line.specs.Item.{version_of, is_deleted, act_of, entity_of, item_of}
 use Rattle.osm_opl_line.specs.Line.{Good, judged, lacks_place, is_changes, heaviest, after_fault, said_by, said_of}
-use Rattle.osm_opl_line.specs.Writable.{IsWritable}
+use Rattle.osm_entity.specs.Writable.{IsWritable}
 use Rattle.osm_opl_line.specs.Writing.{act_text, time_field, tag_text, kind_letter}
 use Rattle.osm_opl_line.proofs.ContentsBackLemmas.{WholeBack, NanoBack, TimeBack, EscapedBack, is_delete, count_in-decimal, changeset_in-decimal, deleted_in-act_text, time_in-time_field, text_in-escaped}
 use Rattle.osm_opl_line.proofs.FieldsBackLemmas.{fields_with, fields_from-parts, degrees-back, body_parts-no_fault, common-no_fault, body_of-fields}

@@ -16,7 +16,7 @@ use Rattle.osm_entity.specs.declared.parts.Tag.{Tag}
 use Rattle.osm_entity.specs.declared.verdict.Cause.{Cause}
 use Rattle.osm_text.specs.Escapes.{escaped, escaped_byte, hex_escape, is_reserved}
 use Rattle.osm_opl_line.specs.Contents.{parts_of, all_in, tag_in, ref_in, member_in, kind_by, is_equals, is_at_sign}
-use Rattle.osm_opl_line.specs.Writable.{IsTagText, IsMemberText}
+use Rattle.osm_entity.specs.Writable.{IsTagText, IsMemberText}
 use Rattle.osm_opl_line.specs.Writing.{kind_letter, tag_text, ref_text, member_text}
 use Rattle.osm_opl_line.proofs.ContentsBackLemmas.{WholeBack, EscapedBack, text_in-escaped}
 use Rattle.osm_opl_line.proofs.EscapedTextLemmas.{IsEscapedByte, escaped-escaped, escaped-utf8}

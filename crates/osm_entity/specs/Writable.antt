@@ -5,6 +5,7 @@ use Rattle.std.specs.Int.{w64}
 use Rattle.std.specs.Str.{IsUtf8}
 use Rattle.osm_entity.specs.Entities.{IsEntity}
 use Rattle.osm_entity.specs.Items.{ItemValue, IsItem}
+use Rattle.osm_entity.specs.declared.item.Act.{Act}
 use Rattle.osm_entity.specs.declared.item.Act.TheVariants.{Keep}
 use Rattle.osm_entity.specs.declared.kind.Flow.{Flow}
 use Rattle.osm_entity.specs.declared.kind.Flow.TheVariants.{Entities}
@@ -29,11 +30,15 @@ IsBodyText (Node place) = ⊤
 IsBodyText (Way refs) = All (λ id. FitsSigned w64 id) refs
 IsBodyText (Relation members) = All IsMemberText members
 
--- an item as its types and invariants have it, which keeps exactly in an entity file
+-- an act that a file of this flow says: an entity file says Keep alone, and a change file all others
+abbrev pub Says : Flow → Act → Type 0
+Says flow act = (act ≡ Keep) ↔ (flow ≡ Entities)
+
+-- an item as its types and invariants have it, with an act that a file of this flow says
 pub record IsWritable (flow : Flow) (item : ItemValue) : Type 0 where
   pub entity : IsEntity item.entity
   pub acted : IsItem item
-  pub kept : (item.act ≡ Keep) ↔ (flow ≡ Entities)
+  pub kept : Says flow item.act
   pub id : FitsSigned w64 item.entity.id
   pub time : item.entity.time < 2 ^ 32
   pub user : IsUtf8 item.entity.user
