@@ -39,7 +39,8 @@ module _ {A E : Type 0} (name : List ℕ) (rows now : List Tally) where
   entered-keeps : (result : Result A E) → Pushed result → OnErr result (now ≡ rows) →
       (n : List ℕ) → Contains (names_in rows) n → Contains (names_in now) n
   entered-keeps (Ok x) ok err n has =
-      subst (λ names. Contains names n) (sym (names_then rows now name ok)) (Contains-append_left (names_in rows) _ n has)
+      subst (λ names. Contains names n) (sym (names_then rows now name ok))
+      (Contains-append_left (names_in rows) _ n has)
   entered-keeps (Err e) ok err n has = subst (λ rows. Contains (names_in rows) n) (sym err) has
 
   entered-only : (result : Result A E) → Pushed result → OnErr result (now ≡ rows) →

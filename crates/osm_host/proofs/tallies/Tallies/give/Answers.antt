@@ -11,12 +11,14 @@ returns-clause-gave c =
     c.deref.ensures.value c.row_of-at.ensures in
     raised-gave c.self.inside.rows.items c.args.self.now c.row_of-at.result c.index_mut.result.now _
     c.args.name.now c.args.more
-    (record { same = c.self.view_is; stood = c.index_mut.ensures.value; own = c.give.ensures.name }) found c.give.ensures.gave
+    (record { same = c.self.view_is; stood = c.index_mut.ensures.value; own = c.give.ensures.name })
+    found c.give.ensures.gave
 
 pub returns-clause-counts : goal.returns-clause-counts
 returns-clause-counts c =
     same-counts c.self.inside.rows.items c.args.self.now c.row_of-at.result c.index_mut.result.now _
-    (record { same = c.self.view_is; stood = c.index_mut.ensures.value; own = c.give.ensures.name }) (λ o. ap (λ faults. faults_of faults o) c.give.ensures.faults)
+    (record { same = c.self.view_is; stood = c.index_mut.ensures.value; own = c.give.ensures.name })
+    (λ o. ap (λ faults. faults_of faults o) c.give.ensures.faults)
 
 pub returns-clause-known : goal.returns-clause-known
 returns-clause-known c =
