@@ -2,7 +2,7 @@
 use crate::entity::Entity;
 use crate::item::{Act, Item};
 use crate::kind::{Key, Kind};
-use crate::parts::{Body, Place, Refs, Tags};
+use crate::parts::{Body, Refs, Tags};
 use crate::sequence::{Bytes, NoMemory};
 use crate::text::{Text, TextError};
 use crate::weighing::weight;
@@ -73,16 +73,6 @@ fn lists_hold(alloc: Global) -> Result<bool, NoMemory> {
 }
 
 fn items_hold(alloc: Global) -> Result<bool, NoMemory> {
-    let node = Entity {
-        id: 1,
-        version: 1,
-        time: 0,
-        changeset: 0,
-        uid: 0,
-        user: Text::new(alloc),
-        tags: Tags::new(alloc),
-        body: Body::Node(Some(Place { lon: 0, lat: 0 })),
-    };
     let way = Item {
         act: Act::Delete,
         entity: Entity {
@@ -99,5 +89,5 @@ fn items_hold(alloc: Global) -> Result<bool, NoMemory> {
     way.held();
     let copy = way.copy(alloc)?;
     let same = copy.key() == way.key() && copy.act == Act::Delete && copy.entity.changeset == 6;
-    Ok(same && weight(&node) == 128 && weight(&copy.entity) == 128)
+    Ok(same && weight(&copy.entity) == 128)
 }
