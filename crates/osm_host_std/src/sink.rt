@@ -4,7 +4,7 @@ ghost use Rattle.std.specs.Io.KnownBytes.{Appends};
 ghost use Rattle.osm_host.specs.Contents.{PutTakes};
 ghost use Rattle.osm_host.specs.Counts.{CountsRefusal};
 ghost use Rattle.osm_host.specs.declared.outside.HostError.TheVariants.{Memory};
-ghost use Rattle.osm_host_std.specs.Gathered.{held, has_failed};
+ghost use Rattle.osm_host_std.specs.Gathered.{held, has_failed, TakesPrefix};
 
 use crate::gatherer::Gatherer;
 use crate::openings::{Identity, Opened};
@@ -88,7 +88,9 @@ impl<F: Write> Sink for FileSink<F> {
             (Appends (held F.contents self.old.gatherer) (held F.contents self.new.gatherer)
             bytes.now) }
 
-        // After a put that failed each is refused, and nothing is written.
+        // A put that fails leaves a prefix. After it each is refused, and nothing is written.
+        ensures prefix { OnErr result
+            (TakesPrefix F.contents self.old.gatherer self.new.gatherer bytes.now) }
         ensures failed { OnErr result (has_failed self.new.gatherer ≡ true) }
         ensures refused { has_failed self.old.gatherer ≡ true → IsErrOf result HostError.Failed }
         ensures idle { has_failed self.old.gatherer ≡ true →
