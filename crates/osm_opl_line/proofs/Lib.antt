@@ -18,6 +18,5 @@ pub mod PlainTextLemmas
 pub mod PrefixLemmas
 pub mod SettlingLemmas
 pub mod SizeLemmas
-pub mod Utf8Lemmas
 pub mod WeighingLemmas
 pub mod WritingLemmas

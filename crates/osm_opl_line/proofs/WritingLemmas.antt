@@ -59,6 +59,6 @@ pub append-list : {T : Type 0} (r : Result (Unit {0}) NoMemory) (text : T → Li
     (out one new : List ℕ) → 0 < length parts → first ≡ get_or parts 0 first → one ≡ out ++ text first →
     OnOk r (new ≡ one ++ flat_map (λ part. 44 ∷ text part) (drop 1 parts)) →
     OnOk r (new ≡ out ++ join_with_byte 44 (map text parts))
-append-list r text first parts out one new some is front last =
+append-list r text first parts out one new some is first_is last =
     on_ok_weaker r (λ more. rw (join_with_byte-first text first parts some is)
-    (simp append_assoc at (rw front at more))) last
+    (simp append_assoc at (rw first_is at more))) last

@@ -7,7 +7,7 @@ ghost use Rattle.osm_entity.specs.declared.kind.Flow.{Flow};
 ghost use Rattle.osm_entity.specs.declared.verdict.Cause.{Cause};
 ghost use Rattle.osm_entity.specs.declared.verdict.Spot.{Spot};
 ghost use Rattle.osm_opl_line.specs.Reading.{opl_reading};
-ghost use Rattle.osm_opl_line.specs.Writable.{IsWritable};
+ghost use Rattle.osm_entity.specs.Writable.{IsWritable};
 ghost use Rattle.osm_opl_line.specs.Writing.{opl_text};
 
 use osm_text::{escaped_reads_back, nano_reads_back, time_reads_back, whole_reads_back};

@@ -1,9 +1,10 @@
 //! Makes the item that the fields of a line say.
 //!
-//! No field has a fault, which was looked at when the line was cut, so only memory can be wanted.
+//! No field has a fault, which was looked at when the line was cut, so nothing but memory can lack.
 ghost use Rattle.std.specs.Prelude.{◌≡◌, ◌==◌, [], IfOk, IsOk, IsUtf8, List, Ok, Result, length, ℕ};
 ghost use Rattle.std.specs.List.{slice_split};
 ghost use Rattle.std.specs.Option.{option_map};
+ghost use Rattle.osm_entity.specs.Ascii.{comma};
 ghost use Rattle.osm_entity.specs.declared.verdict.Cause.{Cause};
 ghost use Rattle.osm_opl_line.specs.Contents.{all_in, member_in, parts_of, ref_in, tag_in, text_in};
 ghost use Rattle.osm_opl_line.specs.Cut.{IsFine};
@@ -186,7 +187,7 @@ fn read_list<T: Part>(alloc: Global, content: &[u8]) -> Result<Sequence<T>, NoMe
 
 // How many parts stand between commas.
 fn count_parts(content: &[u8]) -> usize
-    ensures { result ≡ length (slice_split (λ b. b == 44) content.now) }
+    ensures { result ≡ length (slice_split (λ b. b == comma) content.now) }
 {
     content.iter().filter(|b| **b == b',').count() + 1
 }

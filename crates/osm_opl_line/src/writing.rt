@@ -5,6 +5,7 @@
 ghost use Rattle.std.specs.Prelude.{◌≡◌, ◌++◌, ◌∷◌, ℕ, List, OnOk, OnErr, IsTrue, codes, map};
 ghost use Rattle.std.specs.Fmt.{signed_decimal};
 ghost use Rattle.std.specs.List.{flat_map, join_with_byte};
+ghost use Rattle.osm_entity.specs.Ascii.{comma};
 ghost use Rattle.osm_entity.specs.Entities.{place_fits, body_fits};
 ghost use Rattle.osm_opl_line.specs.LineParts.{author_text, head_text, lists_text};
 ghost use Rattle.osm_opl_line.specs.Writing.{BeginsWith, act_text, body_text, kind_letter};
@@ -185,7 +186,7 @@ impl Part for Member {
 // Appends the name of a list and its elements.
 fn append_named<T: Part>(out: &mut Bytes, name: &[u8], parts: &[T]) -> Result<(), NoMemory>
     ensures ok { OnOk result
-        (out.new ≡ out.old ++ name.now ++ join_with_byte 44 (map T.text parts.now)) }
+        (out.new ≡ out.old ++ name.now ++ join_with_byte comma (map T.text parts.now)) }
     ensures err { OnErr result (BeginsWith out.old out.new) }
 {
     out.append(name)?;
@@ -194,7 +195,7 @@ fn append_named<T: Part>(out: &mut Bytes, name: &[u8], parts: &[T]) -> Result<()
 
 // Appends the elements of a list, with a comma between two.
 fn append_list<T: Part>(out: &mut Bytes, parts: &[T]) -> Result<(), NoMemory>
-    ensures ok { OnOk result (out.new ≡ out.old ++ join_with_byte 44 (map T.text parts.now)) }
+    ensures ok { OnOk result (out.new ≡ out.old ++ join_with_byte comma (map T.text parts.now)) }
     ensures err { OnErr result (BeginsWith out.old out.new) }
 {
     match parts {
@@ -208,7 +209,7 @@ fn append_list<T: Part>(out: &mut Bytes, parts: &[T]) -> Result<(), NoMemory>
 
 // Appends elements, each after a comma.
 fn append_more<T: Part>(out: &mut Bytes, parts: &[T]) -> Result<(), NoMemory>
-    ensures ok { OnOk result (out.new ≡ out.old ++ flat_map (λ part. 44 ∷ T.text part) parts.now) }
+    ensures ok { OnOk result (out.new ≡ out.old ++ flat_map (λ part. comma ∷ T.text part) parts.now) }
     ensures err { OnErr result (BeginsWith out.old out.new) }
 {
     for part in parts {

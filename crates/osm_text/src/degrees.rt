@@ -75,8 +75,8 @@ fn read_joined(before: &[u8], after: &[u8]) -> Option<u128>
     if digits > MOST_DIGITS {
         return None;
     }
-    let front = read_on(0, 0, before)?;
-    read_on(front, before.len(), after)
+    let leading = read_on(0, 0, before)?;
+    read_on(leading, before.len(), after)
 }
 
 fn limit(size: u128) -> Option<u64>
@@ -89,7 +89,7 @@ fn limit(size: u128) -> Option<u64>
     Some(size as u64)
 }
 
-/// The number times so many tens. Past 18 tens all but 0 is too large.
+/// The number times a power of ten. Past the 18th all but 0 is too large.
 fn times(number: u128, tens: u32) -> Option<u64>
     ensures value { result ≡ limited (number * 10 ^ tens) }
     ensures size { IfSome result (λ n. n ≤ 10 ^ 18) }
@@ -107,7 +107,7 @@ fn times(number: u128, tens: u32) -> Option<u64>
     limit(number * scale)
 }
 
-/// The number divided by so many tens. Past 37 tens nothing is left of it.
+/// The number divided by a power of ten. Past the 37th nothing is left of it.
 fn parts(number: u128, tens: u32) -> Option<u64>
     requires { number < 10 ^ 38 }
     ensures value { result ≡ limited (number / 10 ^ tens) }
