@@ -10,8 +10,8 @@ abbrev pub held : {F : Type 0} → (F → Option (List ℕ)) → Gatherer F → 
 held contents gatherer = append_known (contents gatherer.output.file) gatherer.gathered.items
 
 -- a write of the file failed, after which nothing more is written to it
-abbrev pub has_failed : {F : Type 0} → Gatherer F → Bool
-has_failed gatherer = gatherer.output.has_failed
+abbrev pub write_failed : {F : Type 0} → Gatherer F → Bool
+write_failed gatherer = gatherer.output.has_failed
 
 -- the file took a prefix of what was gathered before and of these bytes
 abbrev pub TakesPrefix : {F : Type 0} → (F → Option (List ℕ)) → Gatherer F → Gatherer F → List ℕ → Type 0
@@ -20,5 +20,5 @@ TakesPrefix contents before now bytes =
 
 -- no write failed, and a file holds all that was held: nothing that was gathered is left unwritten
 pub record IsWrittenOut {F : Type 0} (contents : F → Option (List ℕ)) (gatherer : Gatherer F) : Type 0 where
-  pub sound : has_failed gatherer ≡ false
+  pub sound : write_failed gatherer ≡ false
   pub written : (file : F) × Appends (held contents gatherer) (contents file) []
