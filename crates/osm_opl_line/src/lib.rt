@@ -12,6 +12,7 @@ mod laws;
 mod line;
 mod making;
 mod parting;
+mod parts;
 mod pieces;
 mod reading;
 #[cfg(test)]

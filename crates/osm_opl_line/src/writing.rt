@@ -2,17 +2,17 @@
 //!
 //! Each field is written: a number that isn't known as 0, a text or a list without anything as its
 //! letter alone.
-ghost use Rattle.std.specs.Prelude.{◌≡◌, ◌++◌, ◌∷◌, ℕ, List, OnOk, OnErr, IsTrue, codes, map};
+ghost use Rattle.std.specs.Prelude.{◌≡◌, ◌++◌, ◌∷◌, OnOk, OnErr, IsTrue, codes, map};
 ghost use Rattle.std.specs.Fmt.{signed_decimal};
 ghost use Rattle.std.specs.List.{flat_map, join_with_byte};
 ghost use Rattle.osm_entity.specs.Ascii.{comma};
 ghost use Rattle.osm_entity.specs.Entities.{place_fits, body_fits};
 ghost use Rattle.osm_opl_line.specs.LineParts.{author_text, head_text, lists_text};
-ghost use Rattle.osm_opl_line.specs.Writing.{BeginsWith, act_text, body_text, kind_letter};
-ghost use Rattle.osm_opl_line.specs.Writing.{line_text, member_text, place_text, ref_text};
-ghost use Rattle.osm_opl_line.specs.Writing.{tag_text, time_field};
+ghost use Rattle.osm_opl_line.specs.Writing.{BeginsWith, act_text, body_text};
+ghost use Rattle.osm_opl_line.specs.Writing.{line_text, place_text, time_field};
 
-use osm_entity::{Act, Body, Bytes, Entity, Item, Kind, Member, NoMemory, Place, Tag};
+use crate::parts::{Part, append_id};
+use osm_entity::{Act, Body, Bytes, Entity, Item, NoMemory, Place};
 use osm_text::{escape, write_nano, write_time, write_whole};
 
 /// Appends the line of an item, with its newline. At `Err` nothing is appended.
@@ -117,25 +117,6 @@ fn append_number(out: &mut Bytes, before: &[u8], n: i64) -> Result<(), NoMemory>
     write_whole(out, n)
 }
 
-// Appends a kind and an id.
-fn append_id(out: &mut Bytes, kind: Kind, id: i64) -> Result<(), NoMemory>
-    ensures ok { OnOk result (out.new ≡ out.old ++ kind_letter kind ∷ signed_decimal id) }
-    ensures err { OnErr result (BeginsWith out.old out.new) }
-{
-    out.push(letter_of(kind))?;
-    write_whole(out, id)
-}
-
-fn letter_of(kind: Kind) -> u8
-    ensures { result ≡ kind_letter kind }
-{
-    match kind {
-        Kind::Node => b'n',
-        Kind::Way => b'w',
-        Kind::Relation => b'r',
-    }
-}
-
 // The field that says what is done, and the letter of the changeset's.
 fn act_field(act: Act) -> &'static [u8]
     ensures { result.now ≡ codes " d" ++ act_text act ++ codes " c" }
@@ -143,43 +124,6 @@ fn act_field(act: Act) -> &'static [u8]
     match act {
         Act::Delete => b" dD c",
         Act::Keep | Act::Create | Act::Modify => b" dV c",
-    }
-}
-
-// An element of a list of a line: a tag, a ref or a member.
-trait Part {
-    ghost text: { Self → List ℕ };
-
-    fn append_to(&self, out: &mut Bytes) -> Result<(), NoMemory>
-        ensures ok { OnOk result (out.new ≡ out.old ++ text self.now) }
-        ensures err { OnErr result (BeginsWith out.old out.new) };
-}
-
-impl Part for Tag {
-    ghost text = { tag_text };
-
-    fn append_to(&self, out: &mut Bytes) -> Result<(), NoMemory> {
-        escape(out, &self.key)?;
-        out.push(b'=')?;
-        escape(out, &self.value)
-    }
-}
-
-impl Part for i64 {
-    ghost text = { ref_text };
-
-    fn append_to(&self, out: &mut Bytes) -> Result<(), NoMemory> {
-        append_id(out, Kind::Node, *self)
-    }
-}
-
-impl Part for Member {
-    ghost text = { member_text };
-
-    fn append_to(&self, out: &mut Bytes) -> Result<(), NoMemory> {
-        append_id(out, self.kind, self.id)?;
-        out.push(b'@')?;
-        escape(out, &self.role)
     }
 }
 
