@@ -75,14 +75,14 @@ tag_of (Ok key) (Ok value) = Ok (record { key = key; value = value })
 abbrev pub is_equals : ℕ → Bool
 is_equals b = b == equals_sign
 
--- the place of the first = of a tag
-abbrev pub equals_place : List ℕ → ℕ
-equals_place part = position_or_len is_equals part
+-- the position of the first = of a tag, and its length where it has none
+abbrev pub position_of_equals : List ℕ → ℕ
+position_of_equals part = position_or_len is_equals part
 
 -- a tag is cut at its first =, and its key isn't empty
 abbrev pub tag_in : List ℕ → Result Tag Cause
 tag_in part =
-    if nat_lt 0 (equals_place part) && nat_lt (equals_place part) (length part)
+    if nat_lt 0 (position_of_equals part) && nat_lt (position_of_equals part) (length part)
     then tag_of (text_in (before_first is_equals part)) (text_in (after_first is_equals part))
     else Err BadField
 

@@ -1,11 +1,13 @@
 //! Laws over what files say.
-ghost use Rattle.std.specs.Prelude.{◌≡◌, ◌++◌, ◌∷◌, [], ℕ, List, Bool, All, false, true};
+ghost use Rattle.std.specs.Prelude.{◌≡◌, ◌<◌, ◌++◌, ◌∷◌, [], ℕ, List, Bool, All, false, length, true};
 ghost use Rattle.osm_entity.specs.Ascii.{newline};
 ghost use Rattle.osm_entity.specs.Readings.{Bad, Whole, stream_read};
 ghost use Rattle.osm_entity.specs.Streams.{IsBefore, Stream};
 ghost use Rattle.osm_entity.specs.declared.kind.Flow.{Flow};
 ghost use Rattle.osm_entity.specs.declared.verdict.Cause.{Cause};
+ghost use Rattle.osm_entity.specs.declared.verdict.Cause.TheVariants.{LineTooLong};
 ghost use Rattle.osm_entity.specs.declared.verdict.Spot.{Spot};
+ghost use Rattle.osm_opl_line.specs.Line.{Bad as BadLine, longest_line, opl_line};
 ghost use Rattle.osm_opl_line.specs.Reading.{opl_reading};
 ghost use Rattle.osm_entity.specs.Writable.{IsWritable};
 ghost use Rattle.osm_opl_line.specs.Writing.{opl_text};
@@ -23,6 +25,12 @@ pub fn files_read_back()
     time_reads_back();
     escaped_reads_back();
 }
+
+/// A line that is too long is bad for its length, whatever it says.
+pub fn long_lines_are_bad()
+    ensures { (flow : Flow) (line : List ℕ) → longest_line < length line →
+        opl_line flow line ≡ BadLine LineTooLong }
+{}
 
 /// What comes after a bad line changes nothing: where a file that was cut off has a bad line, the
 /// reading stays as it is with any more bytes, at either end. The same holds at a clean end after

@@ -1,6 +1,7 @@
 //! Makes the item that the fields of a line say.
 //!
-//! No field has a fault, which was looked at when the line was cut, so nothing but memory can lack.
+//! No field has a fault, which was looked at when the line was cut, so it fails only where it is
+//! out of memory.
 ghost use Rattle.std.specs.Prelude.{◌≡◌, ◌==◌, [], IfOk, IsOk, IsUtf8, Ok, length};
 ghost use Rattle.std.specs.List.{slice_split};
 ghost use Rattle.std.specs.Option.{option_map};
