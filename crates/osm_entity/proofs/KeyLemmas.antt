@@ -13,7 +13,7 @@ use Rattle.osm_entity.specs.declared.kind.Kind.{Kind}
 use Rattle.osm_entity.specs.declared.kind.Kind.TheVariants.{Node, Way, Relation}
 use Rattle.osm_entity.specs.declared.kind.Key.{Key}
 
--- a key by its parts
+-- the key of this kind and id
 abbrev key : Kind → ℤ → Key
 key kind id = record { kind = kind; id = id }
 
@@ -32,7 +32,8 @@ cmp_by Relation Relation i j = refl
 pub cmp_is : (a b : Key) → compared.ghosts.cmp a b ≡ key_order a b
 cmp_is a b = cmp_by a.kind b.kind a.id b.id
 
-partial_cmp_by : (k l : Kind) (i j : ℤ) → partly.ghosts.partial_cmp (key k i) (key l j) ≡ Some (key_order (key k i) (key l j))
+partial_cmp_by : (k l : Kind) (i j : ℤ) →
+    partly.ghosts.partial_cmp (key k i) (key l j) ≡ Some (key_order (key k i) (key l j))
 partial_cmp_by Node Node i j = refl
 partial_cmp_by Node Way i j = refl
 partial_cmp_by Node Relation i j = refl
@@ -43,7 +44,7 @@ partial_cmp_by Relation Node i j = refl
 partial_cmp_by Relation Way i j = refl
 partial_cmp_by Relation Relation i j = refl
 
--- so does a partial comparison
+-- and so by a partial comparison
 pub partial_cmp_is : (a b : Key) → partly.ghosts.partial_cmp a b ≡ Some (key_order a b)
 partial_cmp_is a b = partial_cmp_by a.kind b.kind a.id b.id
 
@@ -83,11 +84,12 @@ less a b is = cmp_is a b ∙ ap (λ test. if test then Less else if is_key_befor
 before : (a b : Key) → compared.ghosts.cmp a b ≡ Less → is_key_before a b ≡ true
 before a b is = less_by (is_key_before a b) (is_key_before b a) (sym (cmp_is a b) ∙ is)
 
--- a key before one that is before a third is before that
+-- a key that is before one which is before a third is before that
 pub before_third : (a b c : Key) → is_key_before a b ≡ true → is_key_before b c ≡ true → is_key_before a c ≡ true
 before_third a b c left right = before a c (laws.total-law.trans a b c (less a b left) (less b c right))
 
-not_both : (p q : Bool) (r : Ordering) → r ≡ Less → r ≡ ordering_reverse (if q then Less else if p then Greater else Equal) → q ≡ false
+not_both : (p q : Bool) (r : Ordering) → r ≡ Less →
+    r ≡ ordering_reverse (if q then Less else if p then Greater else Equal) → q ≡ false
 not_both p true r is turned = cc
 not_both p false r is turned = refl
 

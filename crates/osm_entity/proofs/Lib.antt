@@ -1,2 +1,8 @@
+pub mod GrowthLemmas
 pub mod KeyLemmas
+pub mod MachineLemmas
+pub mod OneInputLemmas
+mod PassingMachine
+pub mod PortLemmas
+pub mod PrefixLemmas
 mod StreamLemmas

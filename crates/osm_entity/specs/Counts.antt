@@ -2,11 +2,11 @@
 -- Here each is a number below a limit; the code has them by types of 32 and 64 bits.
 use Rattle.std.specs.Prelude.{ℕ, ℤ, pos, negsuc, ◌^◌, nat_lt, if◌then◌else◌, Option, Some, None}
 
--- versions and uids are below this
+-- the limit that versions and uids are below
 abbrev pub count_limit : ℕ
 count_limit = 2 ^ 31
 
--- changesets are below this
+-- the limit that changesets are below
 abbrev pub changeset_limit : ℕ
 changeset_limit = 2 ^ 63
 
@@ -15,6 +15,6 @@ abbrev pub counted : ℤ → ℕ
 counted (pos n) = n
 counted (negsuc n) = 0
 
--- a version or uid, where it is below their limit
+-- a version or uid, or none where the number is not below their limit
 abbrev pub small_count : ℕ → Option ℕ
 small_count n = if nat_lt n count_limit then Some n else None

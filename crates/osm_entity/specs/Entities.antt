@@ -1,5 +1,5 @@
 -- Entities as contracts see them, what each keeps, and what it weighs.
--- Here an entity is a record of plain numbers and lists; the code keeps texts and lists in blocks of their own.
+-- Here an entity is a record of plain numbers and lists; the code has texts and lists by types of their own.
 use Rattle.std.specs.Prelude.{ℕ, ℤ, nat_abs, ◌+◌, ◌*◌, ◌^◌, ◌<◌, ◌≤◌, ◌≢◌, List, [], length, All, Bool, true, ◌&&◌, nat_le, IsTrue, Some, None, sum_by}
 use Rattle.osm_entity.specs.Counts.{count_limit, changeset_limit}
 use Rattle.osm_entity.specs.declared.parts.Member.{Member}

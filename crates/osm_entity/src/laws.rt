@@ -17,7 +17,8 @@ pub fn before_is_an_order()
 /// The order of sorted files is strict and total, and `cmp` and `<` on keys go by it: of two keys
 /// either exactly one is before the other, or they are equal.
 pub fn keys_have_one_order()
-    ensures told { (a b : Key) → (is_key_before a b ≡ true) ⊎ ((a ≡ b) ⊎ (is_key_before b a ≡ true)) }
+    ensures told { (a b : Key) → (is_key_before a b ≡ true)
+        ⊎ ((a ≡ b) ⊎ (is_key_before b a ≡ true)) }
     ensures differ { (a b : Key) → is_key_before a b ≡ true → a ≢ b }
     ensures once { (a b : Key) → is_key_before a b ≡ true → is_key_before b a ≡ false }
     ensures onward { (a b c : Key) → is_key_before a b ≡ true → is_key_before b c ≡ true

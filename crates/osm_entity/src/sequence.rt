@@ -1,5 +1,5 @@
 //! A list that says when it is out of memory. Contracts see it as the list of its elements.
-ghost use Rattle.std.specs.Prelude.{◌≡◌, ◌++◌, ◌∷◌, [], length, reverse, take, slice_set, ◌<◌, IfOk, OnOk, OnErr, MatchOption};
+ghost use Rattle.std.specs.Prelude.{◌≡◌, ◌++◌, ◌∷◌, [], length, reverse, take, slice_set, ◌<◌, ◌≤◌, IfOk, OnOk, OnErr, MatchOption};
 ghost use Rattle.std.specs.Fn.{CalledAt};
 ghost use Rattle.std.specs.List.Retain.{IsFiltered};
 
@@ -108,7 +108,8 @@ impl<T: Drop> Sequence<T> {
     /// Keeps the elements of which `test` says true, in their order. It takes no memory.
     pub fn retain<F: FnMut(&T) -> bool>(&mut self, test: F)
         requires { F.IsAlwaysCallable test }
-        ensures { IsFiltered (CalledAt F.FnMut) test self.old self.new }
+        ensures filtered { IsFiltered (CalledAt F.FnMut) test self.old self.new }
+        ensures bound { length self.new ≤ length self.old }
     {
         self.items.retain(test);
     }

@@ -8,6 +8,6 @@ mod source;
 
 pub use files::{FileHeld, Files};
 pub use held::MemoryHost;
-pub use plan::{FailAt, Fails};
+pub use plan::{FailAt, Fails, calls_come_nearer};
 pub use sink::MemorySink;
 pub use source::MemorySource;

@@ -26,8 +26,8 @@ pub enum HostError {
     /// A device failed.
     #[error("failed")]
     Failed,
-    /// Memory was wanted, and there was none.
-    #[error("no memory")]
+    /// There was no memory for it.
+    #[error("out of memory")]
     Memory,
 }
 
@@ -83,7 +83,8 @@ pub trait Source {
     /// How many of its pulls failed; it stops at 2^64 - 1.
     ghost faults: { Self → ℕ };
 
-    /// Gives the next bytes, as many as it likes and `buf` has room for, at the front of `buf`.
+    /// Gives the next bytes, as many as it likes and `buf` has room for: `Ok(n)` put the first n of
+    /// what is left into the first n places of `buf`.
     /// `Ok(0)` is the end of its bytes. After `Ok(0)` and `Failed` its bytes are as they were.
     fn pull(&mut self, buf: &mut [u8]) -> Result<usize, Failed>
         requires { 0 < length buf.old }
@@ -107,7 +108,7 @@ pub trait Sink {
     /// How many of its puts failed; it stops at 2^64 - 1.
     ghost faults: { Self → ℕ };
 
-    /// Takes the piece whole. After `Failed` it took a front of it, after `Memory` nothing.
+    /// Takes the piece whole. After `Failed` it took a prefix of it, after `Memory` nothing.
     fn put(&mut self, bytes: &[u8]) -> Result<(), HostError>
         ensures name { name self.new ≡ name self.old }
         ensures takes { PutTakes result bytes.now (taken self.old) (taken self.new) }

@@ -30,7 +30,7 @@ pub(crate) fn read_some<F: Read>(file: &mut F, buf: &mut [u8]) -> Result<usize, 
     Err(Failed)
 }
 
-/// One write that isn't interrupted, of a front of the bytes. A write that takes none of them is a
+/// One write that isn't interrupted, of a prefix of the bytes. A write that takes none of them is a
 /// fault: tried again, it might take none for ever.
 fn write_some<F: Write>(file: &mut F, bytes: &[u8]) -> Result<usize, Failed>
     requires { 0 < length bytes.now }
@@ -53,7 +53,7 @@ fn write_some<F: Write>(file: &mut F, bytes: &[u8]) -> Result<usize, Failed>
     Err(Failed)
 }
 
-/// Writes the bytes whole. At `Err` the file took a front of them.
+/// Writes the bytes whole. At `Err` the file took a prefix of them.
 pub(crate) fn write_whole<F: Write>(file: &mut F, bytes: &[u8]) -> Result<(), Failed>
     ensures ok { OnOk result (Appends (F.contents file.old) (F.contents file.new) bytes.now) }
 {

@@ -21,7 +21,7 @@ const NODE_WAY_RELATION: &[u8] =
 /// More bytes than any file here has.
 const ENOUGH: u64 = 1 << 40;
 
-/// A call that fails: of which kind, on which file, and the how manieth.
+/// A call that fails: of which kind, on which file, and which one of them, from 1.
 type Failing = (Op, &'static [u8], u64);
 
 /// No call fails.
@@ -111,12 +111,12 @@ fn check<R: Abort + AllocGlobal>(rt: &R, row: Row, piece: u32, fails: Failing) -
     let full = end.div_ceil(piece as u64);
     let all = full.saturating_add(is_idle as u64);
     let given = full.saturating_mul(piece as u64).min(bytes.len() as u64);
-    let has_ended = is_idle && verdict != Verdict::Read;
+    let reached_end = is_idle && verdict != Verdict::Read;
     assert_eq!(rt; copied.as_slice(), copy, "{says}, in {piece}");
     assert_eq!(rt; pulls, Ok(all), "{says}, in {piece}");
     assert_eq!(rt; reader.verdict(), verdict, "{says}, in {piece}");
     assert_eq!(rt; reader.given(), given, "{says}, in {piece}");
-    assert_eq!(rt; reader.has_ended(), has_ended, "{says}, in {piece}");
+    assert_eq!(rt; reader.reached_end(), reached_end, "{says}, in {piece}");
     Ok(())
 }
 

@@ -1,5 +1,5 @@
 //! The host whose files lie in memory.
-ghost use Rattle.std.specs.Prelude.{◌≡◌, ℕ, ◌+◌, ◌<◌, ◌≤◌, List, [], Option, Some, IfOk, IsTrue};
+ghost use Rattle.std.specs.Prelude.{◌≡◌, ℕ, ◌+◌, ◌<◌, ◌≤◌, List, [], Option, Some, IfOk, OnOk, OnErr, Contains};
 
 use crate::memory::files::{Files, bytes_of, put_file};
 use crate::memory::plan::{Fails, Plan};
@@ -28,29 +28,53 @@ pub struct MemoryHost {
 }
 
 impl Host for MemoryHost {
-    ghost use Rattle.std.specs.Prelude.{true, ◌++◌, IsErr, OnOk};
-    ghost use Rattle.osm_host.specs.Counts.{CountsFailure};
-    ghost use Rattle.osm_host.specs.Held.{files_of};
-    ghost use Rattle.osm_host.specs.Memory.{is_muted};
-    ghost use Rattle.osm_host.specs.Tallies.{faults_in, given_in, names_in};
+    ghost use Rattle.std.specs.Prelude.{IsTrue};
+    ghost use Rattle.std.specs.Io.KnownBytes.{append_known};
+    ghost use Rattle.osm_host.specs.Contents.{IsContent, IsEmptyWhereTold, set_file, KeepsFile};
+    ghost use Rattle.osm_host.specs.Counts.{CountsFailure, CountsOfCall, SameCounts, Adds, KeepCounts, GaveOnly};
+    ghost use Rattle.osm_host.specs.Memory.{moment_of, setup_of, setup_after, is_due, open_fails, can_say, rest_of};
+    ghost use Rattle.osm_host.specs.Names.{KnownByCall};
+    ghost use Rattle.osm_host.specs.Plans.{FailsWhere};
+    ghost use Rattle.osm_host.specs.declared.outside.Op.TheVariants.{Open, Make, Pull, Keep};
 
     type In = MemorySource;
 
     type Out = MemorySink;
 
-    ghost files = { λ h. Some (files_of h.files) };
+    ghost files = { λ h. (moment_of h).files };
 
-    ghost said = { λ h. Some h.said };
+    ghost said = { λ h. (moment_of h).said };
 
-    ghost mute = { λ h. h.mutes };
+    ghost mute = { λ h. (moment_of h).mute };
 
-    ghost count = { λ h. faults_in h.tallies };
+    ghost count = { λ h. (moment_of h).count };
 
-    ghost gave = { λ h. given_in h.tallies };
+    ghost gave = { λ h. (moment_of h).gave };
 
-    ghost known = { λ h. names_in h.tallies };
+    ghost known = { λ h. (moment_of h).known };
 
-    fn open_source(&mut self, name: &Text) -> Result<MemorySource, HostError> {
+    /// `Failed` where this call is one that fails, and where there is no such file.
+    fn open_source(&mut self, name: &Text) -> Result<MemorySource, HostError>
+        ensures name { IfOk result (λ s. s.name ≡ name.now) }
+        ensures rest { IfOk result (λ s.
+            IsContent (moment_of self.old).files name.now (rest_of s)) }
+        ensures given { IfOk result (λ s. s.place ≡ 0) }
+        ensures fresh { IfOk result (λ s. s.faults ≡ 0) }
+        ensures piece { IfOk result (λ s. s.piece ≡ (setup_of self.old).piece) }
+        ensures plan { IfOk result (λ s. s.plan.fails.items ≡ (setup_of self.new).fails) }
+
+        ensures due { FailsWhere (open_fails name.now self.old) result }
+        ensures setup { setup_of self.new ≡ setup_after Open name.now (setup_of self.old) }
+
+        ensures files { (moment_of self.new).files ≡ (moment_of self.old).files }
+        ensures said { (moment_of self.new).said ≡ (moment_of self.old).said }
+        ensures mute { (moment_of self.new).mute ≡ (moment_of self.old).mute }
+        ensures counts { CountsOfCall Open name.now
+            (moment_of self.old).count (moment_of self.new).count result }
+        ensures gave { (n : List ℕ) → (moment_of self.new).gave n ≡ (moment_of self.old).gave n }
+        ensures known { KnownByCall name.now
+            (moment_of self.old).known (moment_of self.new).known result }
+    {
         let fails = self.plan.fails(Op::Open, name);
         self.tallies.enter(self.alloc, name)?;
         if fails {
@@ -59,8 +83,13 @@ impl Host for MemoryHost {
         }
         match bytes_of(self.files.as_slice(), name) {
             Some(bytes) => {
-                let turns = self.plan.turns(self.alloc, Op::Pull, name)?;
-                let source = MemorySource::new(self.alloc, name, bytes, self.piece, turns)?;
+                let source = MemorySource::new(
+                    self.alloc,
+                    name,
+                    bytes,
+                    self.piece,
+                    &self.plan.fails,
+                )?;
                 Ok(source)
             }
             None => {
@@ -70,26 +99,78 @@ impl Host for MemoryHost {
         }
     }
 
-    fn close_source(&mut self, name: &Text, source: MemorySource) {
+    fn close_source(&mut self, name: &Text, source: MemorySource)
+        requires known { Contains (moment_of self.old).known name.now }
+        requires name { source.name ≡ name.now }
+
+        ensures setup { setup_of self.new ≡ setup_of self.old }
+
+        ensures files { (moment_of self.new).files ≡ (moment_of self.old).files }
+        ensures said { (moment_of self.new).said ≡ (moment_of self.old).said }
+        ensures mute { (moment_of self.new).mute ≡ (moment_of self.old).mute }
+        ensures counts { Adds Pull name.now source.faults
+            (moment_of self.old).count (moment_of self.new).count }
+        ensures gave { GaveOnly name.now source.place
+            (moment_of self.old).gave (moment_of self.new).gave }
+        ensures known { (moment_of self.new).known ≡ (moment_of self.old).known }
+    {
         self.tallies.add(Op::Pull, name, source.faults);
-        self.tallies.give(name, source.given);
+        self.tallies.give(name, source.place as u64);
     }
 
-    fn open_sink(&mut self, name: &Text) -> Result<MemorySink, HostError> {
+    /// `Failed` exactly where this call is one that fails, unless memory was out.
+    fn open_sink(&mut self, name: &Text) -> Result<MemorySink, HostError>
+        ensures name { IfOk result (λ k. k.name ≡ name.now) }
+        ensures taken { IfOk result (λ k.
+            IsEmptyWhereTold (moment_of self.old).files (Some k.bytes)) }
+        ensures fresh { IfOk result (λ k. k.faults ≡ 0) }
+        ensures plan { IfOk result (λ k. k.plan.fails.items ≡ (setup_of self.new).fails) }
+
+        ensures due { FailsWhere (is_due Make name.now self.old) result }
+        ensures setup { setup_of self.new ≡ setup_after Make name.now (setup_of self.old) }
+
+        ensures made { OnOk result
+            ((moment_of self.new).files ≡ set_file name.now [] (moment_of self.old).files) }
+        ensures files { OnErr result ((moment_of self.new).files ≡ (moment_of self.old).files) }
+        ensures said { (moment_of self.new).said ≡ (moment_of self.old).said }
+        ensures mute { (moment_of self.new).mute ≡ (moment_of self.old).mute }
+        ensures counts { CountsOfCall Make name.now
+            (moment_of self.old).count (moment_of self.new).count result }
+        ensures gave { (n : List ℕ) → (moment_of self.new).gave n ≡ (moment_of self.old).gave n }
+        ensures known { KnownByCall name.now
+            (moment_of self.old).known (moment_of self.new).known result }
+    {
         let fails = self.plan.fails(Op::Make, name);
         self.tallies.enter(self.alloc, name)?;
         if fails {
             self.tallies.fail(Op::Make, name);
             return Err(HostError::Failed);
         }
-        let turns = self.plan.turns(self.alloc, Op::Put, name)?;
-        let sink = MemorySink::new(self.alloc, name, turns)?;
+        let sink = MemorySink::new(self.alloc, name, &self.plan.fails)?;
         let file = name.copy(self.alloc)?;
         put_file(&mut self.files, file, Bytes::new(self.alloc))?;
         Ok(sink)
     }
 
-    fn keep(&mut self, name: &Text, sink: MemorySink) -> Result<(), HostError> {
+    /// `Failed` exactly where this call is one that fails, unless memory was out; no file changed
+    /// then.
+    fn keep(&mut self, name: &Text, sink: MemorySink) -> Result<(), HostError>
+        requires known { Contains (moment_of self.old).known name.now }
+        requires name { sink.name ≡ name.now }
+
+        ensures due { FailsWhere (is_due Keep name.now self.old) result }
+        ensures setup { setup_of self.new ≡ setup_after Keep name.now (setup_of self.old) }
+        ensures err { OnErr result ((moment_of self.new).files ≡ (moment_of self.old).files) }
+
+        ensures files { KeepsFile result name.now (Some sink.bytes)
+            (moment_of self.old).files (moment_of self.new).files }
+        ensures said { (moment_of self.new).said ≡ (moment_of self.old).said }
+        ensures mute { (moment_of self.new).mute ≡ (moment_of self.old).mute }
+        ensures counts { KeepCounts name.now sink.faults
+            (moment_of self.old).count (moment_of self.new).count result }
+        ensures gave { (n : List ℕ) → (moment_of self.new).gave n ≡ (moment_of self.old).gave n }
+        ensures known { (moment_of self.new).known ≡ (moment_of self.old).known }
+    {
         let fails = self.plan.fails(Op::Keep, name);
         self.tallies.add(Op::Put, name, sink.faults);
         if fails {
@@ -100,14 +181,21 @@ impl Host for MemoryHost {
         Ok(())
     }
 
+    /// `Failed` where it is mute, and where more than 524,288 bytes would be said in all.
     fn say(&mut self, bytes: &[u8]) -> Result<(), Failed>
-        ensures said { OnOk result (self.new.said ≡ self.old.said ++ bytes.now) }
-        ensures mute { CountsFailure result self.old.mutes self.new.mutes }
-        ensures files { files_of self.new.files ≡ files_of self.old.files }
-        ensures tallies { self.new.tallies ≡ self.old.tallies }
-        ensures muted { is_muted self.old ≡ true → IsErr result }
+        ensures room { OnOk result (IsTrue (can_say self.old bytes.now)) }
+        ensures setup { setup_of self.new ≡ setup_of self.old }
+        ensures err { OnErr result ((moment_of self.new).said ≡ (moment_of self.old).said) }
+
+        ensures said { OnOk result
+            ((moment_of self.new).said ≡ append_known (moment_of self.old).said bytes.now) }
+        ensures mute { CountsFailure result (moment_of self.old).mute (moment_of self.new).mute }
+        ensures files { (moment_of self.new).files ≡ (moment_of self.old).files }
+        ensures counts { SameCounts (moment_of self.old).count (moment_of self.new).count }
+        ensures gave { (n : List ℕ) → (moment_of self.new).gave n ≡ (moment_of self.old).gave n }
+        ensures known { (moment_of self.new).known ≡ (moment_of self.old).known }
     {
-        if self.can_say(bytes.len()) && self.said.append(bytes).is_ok() {
+        if self.can_say(bytes) && self.said.append(bytes).is_ok() {
             return Ok(());
         }
         self.mutes = self.mutes.saturating_add(1);
@@ -116,10 +204,10 @@ impl Host for MemoryHost {
 }
 
 impl MemoryHost {
-    ghost use Rattle.std.specs.Prelude.{◌≢◌, nat_le, not, length, ◌&&◌};
+    ghost use Rattle.std.specs.Prelude.{◌≢◌};
     ghost use Rattle.std.specs.List.{AllPairs};
     ghost use Rattle.osm_host.specs.Held.{files_of};
-    ghost use Rattle.osm_host.specs.Memory.{is_muted, moment_of};
+    ghost use Rattle.osm_host.specs.Memory.{can_say, moment_of, setup_of};
     ghost use Rattle.osm_host.specs.declared.outside.Op.{Op};
 
     /// A host with these files, of which no two have one name. A pull gives at most `piece` bytes.
@@ -133,10 +221,11 @@ impl MemoryHost {
     ) -> Result<MemoryHost, NoMemory>
         requires piece { 0 < piece }
         requires names { AllPairs (λ f g. f.name ≢ g.name) files }
+        ensures setup { IfOk result (λ h.
+            setup_of h ≡ record { piece = piece; fails = fail; muted = mute }) }
         ensures files { IfOk result (λ h. (moment_of h).files ≡ Some (files_of files)) }
         ensures said { IfOk result (λ h. (moment_of h).said ≡ Some []) }
         ensures mute { IfOk result (λ h. (moment_of h).mute ≡ 0) }
-        ensures muted { IfOk result (λ h. is_muted h ≡ mute) }
         ensures counts { IfOk result (λ h. (o : Op) (n : List ℕ) → (moment_of h).count o n ≡ 0) }
         ensures gave { IfOk result (λ h. (n : List ℕ) → (moment_of h).gave n ≡ 0) }
         ensures known { IfOk result (λ h. (moment_of h).known ≡ []) }
@@ -147,7 +236,7 @@ impl MemoryHost {
             said: Bytes::with_room(alloc, MAX_SAID)?,
             tallies: Tallies::new(alloc),
             mutes: 0,
-            plan: Plan::new(alloc, fail)?,
+            plan: Plan::new(alloc, fail.as_slice())?,
             piece,
             is_mute: mute,
         })
@@ -167,10 +256,11 @@ impl MemoryHost {
         &self.said
     }
 
-    /// Whether so many bytes more may be said.
-    fn can_say(&self, more: usize) -> bool
-        ensures { result ≡ (not self.now.is_mute && nat_le (length self.now.said + more) MAX_SAID) }
+    /// Whether these bytes may be said.
+    fn can_say(&self, bytes: &[u8]) -> bool
+        ensures { result ≡ can_say self.now bytes.now }
     {
-        !self.is_mute && self.said.len() <= MAX_SAID && more <= MAX_SAID - self.said.len()
+        let room = MAX_SAID.saturating_sub(self.said.len());
+        !self.is_mute && self.said.len() <= MAX_SAID && bytes.len() <= room
     }
 }
