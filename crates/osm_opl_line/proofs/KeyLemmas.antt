@@ -70,7 +70,8 @@ tag_in-named : (part : List ℕ) (tag : Tag) → tag_in part ≡ Ok tag → tag.
 tag_in-named part tag is empty =
     let parts = cond-ok (nat_lt 0 (position_of_equals part) && nat_lt (position_of_equals part) (length part))
     (tag_of (text_in (before_first is_equals part)) (text_in (after_first is_equals part))) tag is in
-    let tests = and_parts (nat_lt 0 (position_of_equals part)) (nat_lt (position_of_equals part) (length part)) parts.0 in
+    let tests = and_parts (nat_lt 0 (position_of_equals part)) (nat_lt (position_of_equals part) (length part))
+    parts.0 in
     let key = tag_of-key (text_in (before_first is_equals part)) (text_in (after_first is_equals part)) tag parts.1 in
     let none : before_first is_equals part ≡ [] =
     unescaped-empty (before_first is_equals part)

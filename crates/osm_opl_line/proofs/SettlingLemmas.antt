@@ -191,7 +191,8 @@ cut-isnt_done : (flow : Flow) (lines : List (List ℕ)) (number : ℕ) →
     end_read (read_lines flow false number lines).ending ≡ Done → ⊥
 cut-isnt_done flow [] number done = let no : Broken ≡ Done = done in cc
 cut-isnt_done flow (line ∷ lines) number done =
-    by_value (opl_line flow line) (read_lines flow false (number + 1) lines) (cut-isnt_done flow lines (number + 1)) done
+    by_value (opl_line flow line) (read_lines flow false (number + 1) lines)
+    (cut-isnt_done flow lines (number + 1)) done
   where
     by_value : (value : LineValue) (rest : Reading) → (end_read rest.ending ≡ Done → ⊥) →
         end_read (before number value rest).ending ≡ Done → ⊥

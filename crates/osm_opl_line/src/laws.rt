@@ -40,7 +40,8 @@ pub fn bad_lines_settle()
     ensures cut { (flow : Flow) (bytes more : List ℕ) (clean : Bool) (cause : Cause) (spot : Spot) →
         (opl_reading flow bytes false).ending ≡ Bad cause spot →
         opl_reading flow (bytes ++ more) clean ≡ opl_reading flow bytes false }
-    ensures ended { (flow : Flow) (bytes more : List ℕ) (clean : Bool) (cause : Cause) (spot : Spot) →
+    ensures ended { (flow : Flow) (bytes more : List ℕ)
+        (clean : Bool) (cause : Cause) (spot : Spot) →
         (opl_reading flow (bytes ++ newline ∷ []) true).ending ≡ Bad cause spot →
         opl_reading flow ((bytes ++ newline ∷ []) ++ more) clean
         ≡ opl_reading flow (bytes ++ newline ∷ []) true }

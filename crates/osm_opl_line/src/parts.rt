@@ -1,13 +1,14 @@
-//! The values of lists: tags, refs and members. Each is said by a part between commas, has a weight,
-//! and is written as a part again.
+//! The values of lists: tags, refs and members. Each is said by a part between commas, weighs
+//! something, and is written as a part again.
 ghost use Rattle.std.specs.Prelude.{◌≡◌, ◌≤◌, ◌+◌, ◌++◌, ◌∷◌, ℕ, List, Result, Ok, IfOk, IsOk, IsUtf8, OnErr, OnOk, length};
 ghost use Rattle.std.specs.Fmt.{signed_decimal};
 ghost use Rattle.osm_entity.specs.Entities.{member_weight, tag_weight};
+ghost use Rattle.osm_entity.specs.Prefixes.{IsPrefix};
 ghost use Rattle.osm_entity.specs.declared.verdict.Cause.{Cause};
 ghost use Rattle.osm_opl_line.specs.Contents.{member_in, ref_in, tag_in, text_in};
 ghost use Rattle.osm_opl_line.specs.Cut.{weighed};
 ghost use Rattle.osm_opl_line.specs.Line.{longest_line};
-ghost use Rattle.osm_opl_line.specs.Writing.{BeginsWith, kind_letter, member_text, ref_text, tag_text};
+ghost use Rattle.osm_opl_line.specs.Writing.{kind_letter, member_text, ref_text, tag_text};
 
 use crate::contents::weigh_text;
 use crate::parting::{cut_member, cut_ref, cut_tag, letter_of};
@@ -41,7 +42,7 @@ pub(crate) trait Part: Drop {
     /// Appends the part of a value. At `Err` some of it may stand at the end.
     fn append_to(&self, out: &mut Bytes) -> Result<(), NoMemory>
         ensures ok { OnOk result (out.new ≡ out.old ++ text self.now) }
-        ensures err { OnErr result (BeginsWith out.old out.new) };
+        ensures err { OnErr result (IsPrefix out.old out.new) };
 }
 
 impl Part for Tag {
@@ -164,7 +165,7 @@ pub(crate) fn read_text(alloc: Global, content: &[u8]) -> Result<Text, NoMemory>
 /// Appends a kind and an id. At `Err` some of it may stand at the end.
 pub(crate) fn append_id(out: &mut Bytes, kind: Kind, id: i64) -> Result<(), NoMemory>
     ensures ok { OnOk result (out.new ≡ out.old ++ kind_letter kind ∷ signed_decimal id) }
-    ensures err { OnErr result (BeginsWith out.old out.new) }
+    ensures err { OnErr result (IsPrefix out.old out.new) }
 {
     out.push(letter_of(kind))?;
     write_whole(out, id)

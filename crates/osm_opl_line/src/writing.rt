@@ -7,8 +7,9 @@ ghost use Rattle.std.specs.Fmt.{signed_decimal};
 ghost use Rattle.std.specs.List.{flat_map, join_with_byte};
 ghost use Rattle.osm_entity.specs.Ascii.{comma};
 ghost use Rattle.osm_entity.specs.Entities.{place_fits, body_fits};
+ghost use Rattle.osm_entity.specs.Prefixes.{IsPrefix};
 ghost use Rattle.osm_opl_line.specs.LineParts.{author_text, head_text, lists_text};
-ghost use Rattle.osm_opl_line.specs.Writing.{BeginsWith, act_text, body_text};
+ghost use Rattle.osm_opl_line.specs.Writing.{act_text, body_text};
 ghost use Rattle.osm_opl_line.specs.Writing.{line_text, place_text, time_field};
 
 use crate::parts::{Part, append_id};
@@ -31,7 +32,7 @@ pub fn write_line(out: &mut Bytes, item: &Item) -> Result<(), NoMemory>
 // Appends field after field. At `Err` some of them are appended.
 fn append_line(out: &mut Bytes, item: &Item) -> Result<(), NoMemory>
     ensures ok { OnOk result (out.new ≡ out.old ++ line_text item.now) }
-    ensures err { OnErr result (BeginsWith out.old out.new) }
+    ensures err { OnErr result (IsPrefix out.old out.new) }
 {
     append_head(out, item)?;
     append_author(out, &item.entity)?;
@@ -42,7 +43,7 @@ fn append_line(out: &mut Bytes, item: &Item) -> Result<(), NoMemory>
 // Appends the kind and the id, the version, what is done, and the changeset.
 fn append_head(out: &mut Bytes, item: &Item) -> Result<(), NoMemory>
     ensures ok { OnOk result (out.new ≡ out.old ++ head_text item.now) }
-    ensures err { OnErr result (BeginsWith out.old out.new) }
+    ensures err { OnErr result (IsPrefix out.old out.new) }
 {
     let entity = &item.entity;
     append_id(out, item.key().kind, entity.id)?;
@@ -53,7 +54,7 @@ fn append_head(out: &mut Bytes, item: &Item) -> Result<(), NoMemory>
 // Appends the time, the uid and the user.
 fn append_author(out: &mut Bytes, entity: &Entity) -> Result<(), NoMemory>
     ensures ok { OnOk result (out.new ≡ out.old ++ author_text entity.now) }
-    ensures err { OnErr result (BeginsWith out.old out.new) }
+    ensures err { OnErr result (IsPrefix out.old out.new) }
 {
     append_time(out, entity.time)?;
     append_number(out, b" i", i64::from(entity.uid))?;
@@ -64,7 +65,7 @@ fn append_author(out: &mut Bytes, entity: &Entity) -> Result<(), NoMemory>
 // Appends the tags, and the fields that only a kind has.
 fn append_lists(out: &mut Bytes, entity: &Entity) -> Result<(), NoMemory>
     ensures ok { OnOk result (out.new ≡ out.old ++ lists_text entity.now) }
-    ensures err { OnErr result (BeginsWith out.old out.new) }
+    ensures err { OnErr result (IsPrefix out.old out.new) }
 {
     append_named(out, b" T", entity.tags.as_slice())?;
     append_body(out, &entity.body)
@@ -74,7 +75,7 @@ fn append_lists(out: &mut Bytes, entity: &Entity) -> Result<(), NoMemory>
 fn append_body(out: &mut Bytes, body: &Body) -> Result<(), NoMemory>
     requires { IsTrue (body_fits body.now) }
     ensures ok { OnOk result (out.new ≡ out.old ++ body_text body.now) }
-    ensures err { OnErr result (BeginsWith out.old out.new) }
+    ensures err { OnErr result (IsPrefix out.old out.new) }
 {
     match body {
         Body::Node(Some(place)) => append_place(out, place),
@@ -88,7 +89,7 @@ fn append_body(out: &mut Bytes, body: &Body) -> Result<(), NoMemory>
 fn append_place(out: &mut Bytes, place: &Place) -> Result<(), NoMemory>
     requires { IsTrue (place_fits place.now) }
     ensures ok { OnOk result (out.new ≡ out.old ++ place_text place.now) }
-    ensures err { OnErr result (BeginsWith out.old out.new) }
+    ensures err { OnErr result (IsPrefix out.old out.new) }
 {
     out.append(b" x")?;
     write_nano(out, place.lon)?;
@@ -99,7 +100,7 @@ fn append_place(out: &mut Bytes, place: &Place) -> Result<(), NoMemory>
 // Appends `t` and a time.
 fn append_time(out: &mut Bytes, time: u32) -> Result<(), NoMemory>
     ensures ok { OnOk result (out.new ≡ out.old ++ codes " t" ++ time_field time) }
-    ensures err { OnErr result (BeginsWith out.old out.new) }
+    ensures err { OnErr result (IsPrefix out.old out.new) }
 {
     out.append(b" t")?;
     if time == 0 {
@@ -111,7 +112,7 @@ fn append_time(out: &mut Bytes, time: u32) -> Result<(), NoMemory>
 // Appends a number and what stands before it.
 fn append_number(out: &mut Bytes, before: &[u8], n: i64) -> Result<(), NoMemory>
     ensures ok { OnOk result (out.new ≡ out.old ++ before.now ++ signed_decimal n) }
-    ensures err { OnErr result (BeginsWith out.old out.new) }
+    ensures err { OnErr result (IsPrefix out.old out.new) }
 {
     out.append(before)?;
     write_whole(out, n)
@@ -131,7 +132,7 @@ fn act_field(act: Act) -> &'static [u8]
 fn append_named<T: Part>(out: &mut Bytes, name: &[u8], parts: &[T]) -> Result<(), NoMemory>
     ensures ok { OnOk result
         (out.new ≡ out.old ++ name.now ++ join_with_byte comma (map T.text parts.now)) }
-    ensures err { OnErr result (BeginsWith out.old out.new) }
+    ensures err { OnErr result (IsPrefix out.old out.new) }
 {
     out.append(name)?;
     append_list(out, parts)
@@ -140,7 +141,7 @@ fn append_named<T: Part>(out: &mut Bytes, name: &[u8], parts: &[T]) -> Result<()
 // Appends the elements of a list, with a comma between two.
 fn append_list<T: Part>(out: &mut Bytes, parts: &[T]) -> Result<(), NoMemory>
     ensures ok { OnOk result (out.new ≡ out.old ++ join_with_byte comma (map T.text parts.now)) }
-    ensures err { OnErr result (BeginsWith out.old out.new) }
+    ensures err { OnErr result (IsPrefix out.old out.new) }
 {
     match parts {
         [] => Ok(()),
@@ -153,8 +154,9 @@ fn append_list<T: Part>(out: &mut Bytes, parts: &[T]) -> Result<(), NoMemory>
 
 // Appends elements, each after a comma.
 fn append_more<T: Part>(out: &mut Bytes, parts: &[T]) -> Result<(), NoMemory>
-    ensures ok { OnOk result (out.new ≡ out.old ++ flat_map (λ part. comma ∷ T.text part) parts.now) }
-    ensures err { OnErr result (BeginsWith out.old out.new) }
+    ensures ok { OnOk result
+        (out.new ≡ out.old ++ flat_map (λ part. comma ∷ T.text part) parts.now) }
+    ensures err { OnErr result (IsPrefix out.old out.new) }
 {
     for part in parts {
         out.push(b',')?;

@@ -6,7 +6,8 @@ use Rattle.std.proofs.lemmas.List.Sums.{position_or_len_is}
 use Rattle.memchr.specs.Find.{IsFirstByte}
 
 -- what a search for the first byte that passes gives is its position
-pub position-first : (test : ℕ → Bool) (bytes : List ℕ) (r : Option ℕ) → IsFirstByte test bytes r → r ≡ position test bytes
+pub position-first : (test : ℕ → Bool) (bytes : List ℕ) (r : Option ℕ) → IsFirstByte test bytes r →
+    r ≡ position test bytes
 position-first test bytes None nowhere =
     let at_end : position_or_len test bytes ≡ length bytes =
     position_or_len_is test bytes (length bytes) 0 (omega arith)

@@ -13,7 +13,8 @@ weigh-requires g c =
 pub returns-in_err-total-clause-value : goal.returns-in_err-total-clause-value
 returns-in_err-total-clause-value g c =
     cause-handed_on c.from_residual.result _ c.in_err-total.field-0.0 c.from_residual.ensures.1
-    (weighed-bad g.T.Part.weight g.T.Part.says (weighed (sum_by g.T.Part.weight) (all_in g.T.Part.says (parts_of c.args.content.now)))
+    (weighed-bad g.T.Part.weight g.T.Part.says
+    (weighed (sum_by g.T.Part.weight) (all_in g.T.Part.says (parts_of c.args.content.now)))
     c.loop-part.rest.now c.in-Some.part.now _ c.loop-part.total c.in_err-total.field-0.0 c.in-Some.ensures.some
     c.in_err-total.ensures.value c.loop-part.invariant.sum)
 
@@ -22,7 +23,8 @@ loop-part-preserved g c =
     let split = length-split c.loop-part.rest.now c.in-Some.part.now c.in-Some.more.now c.in-Some.ensures.some in
     record {
       sum =
-          weighed-step g.T.Part.weight g.T.Part.says (weighed (sum_by g.T.Part.weight) (all_in g.T.Part.says (parts_of c.args.content.now)))
+          weighed-step g.T.Part.weight g.T.Part.says
+          (weighed (sum_by g.T.Part.weight) (all_in g.T.Part.says (parts_of c.args.content.now)))
           c.loop-part.rest.now c.in-Some.part.now c.in-Some.more.now c.loop-part.total c.in_ok-total.field-0
           c.in-Some.ensures.some c.in_ok-total.ensures.value c.loop-part.invariant.sum;
       small = omega (arith, c.in_ok-total.ensures.small, c.loop-part.invariant.small);
@@ -31,12 +33,14 @@ loop-part-preserved g c =
 pub returns-in_err-last-clause-value : goal.returns-in_err-last-clause-value
 returns-in_err-last-clause-value g c =
     cause-handed_on c.from_residual-in_err-last.result _ c.in_err-last.field-0.0 c.from_residual-in_err-last.ensures.1
-    (weighed-bad g.T.Part.weight g.T.Part.says (weighed (sum_by g.T.Part.weight) (all_in g.T.Part.says (parts_of c.args.content.now)))
+    (weighed-bad g.T.Part.weight g.T.Part.says
+    (weighed (sum_by g.T.Part.weight) (all_in g.T.Part.says (parts_of c.args.content.now)))
     c.loop-part.rest.now c.loop-part.rest.now _ c.loop-part.total c.in_err-last.field-0.0 c.in_default.ensures.none
     c.in_err-last.ensures.value c.loop-part.invariant.sum)
 
 pub returns-clause-value : goal.returns-clause-value
 returns-clause-value g c =
-    weighed-end g.T.Part.weight g.T.Part.says (weighed (sum_by g.T.Part.weight) (all_in g.T.Part.says (parts_of c.args.content.now)))
+    weighed-end g.T.Part.weight g.T.Part.says
+    (weighed (sum_by g.T.Part.weight) (all_in g.T.Part.says (parts_of c.args.content.now)))
     c.loop-part.rest.now c.loop-part.total c.in_ok-last.last c.in_default.ensures.none
     c.in_ok-last.ensures.value c.loop-part.invariant.sum
