@@ -4,7 +4,7 @@ use Rattle.osm_entity.specs.declared.verdict.Cause.{Cause}
 use Rattle.osm_opl_line.specs.Contents.{tag_of, text_in}
 use Rattle.osm_opl_line.specs.Cut.{weighed}
 use Rattle.osm_opl_line.proofs.WeighingLemmas.{cause-handed_on}
-use Rattle.osm_opl_line.proofs.weighing.weigh_tag.Goals as goal
+use Rattle.osm_opl_line.proofs.parts.TagPart.weigh.Goals as goal
 
 -- the cause of a bad key is that of its tag
 tag_of-bad_key : (key value : Result (List ℕ) Cause) (cause : Cause) → Err cause ≡ weighed length key →

@@ -6,7 +6,7 @@ use Rattle.osm_text.specs.Numbers.{whole}
 use Rattle.osm_opl_line.specs.Contents.{member_of, text_in}
 use Rattle.osm_opl_line.specs.Cut.{weighed}
 use Rattle.osm_opl_line.proofs.WeighingLemmas.{cause-handed_on}
-use Rattle.osm_opl_line.proofs.weighing.weigh_member.Goals as goal
+use Rattle.osm_opl_line.proofs.parts.MemberPart.weigh.Goals as goal
 
 -- the cause of a bad role is that of its member, where the kind and the number are good
 member_of-bad_role : (kind : Kind) (id : Option ℤ) (role : Result (List ℕ) Cause) (n : ℤ) (cause : Cause) →

@@ -1,6 +1,6 @@
 use Rattle.osm_text.specs.Nano.{is_point}
 use Rattle.osm_text.proofs.DegreesLemmas.{place-or_end, place-within}
-use Rattle.osm_text.proofs.degrees.point_place.Goals as goal
+use Rattle.osm_text.proofs.degrees.position_of_point.Goals as goal
 
 pub returns-clause-value : goal.returns-clause-value
 returns-clause-value c = rw (c.find_point.ensures, place-or_end is_point c.args.bytes.now) at c.unwrap_or.ensures
