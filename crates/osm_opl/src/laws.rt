@@ -2,6 +2,7 @@
 ghost use Rattle.std.specs.Prelude.{◌≡◌, ◌≢◌, ◌++◌, [], ℕ, List, Bool, Option, false};
 ghost use Rattle.std.specs.Io.KnownBytes.{append_known};
 ghost use Rattle.osm_entity.specs.Items.{ItemValue};
+ghost use Rattle.osm_entity.specs.Prefixes.{IsPrefix};
 ghost use Rattle.osm_entity.specs.Readings.{stream_read};
 ghost use Rattle.osm_entity.specs.Streams.{IsBefore, Stream};
 ghost use Rattle.osm_entity.specs.declared.stream.End.TheVariants.{Broken};
@@ -11,7 +12,7 @@ ghost use Rattle.osm_entity.specs.declared.verdict.Verdict.TheVariants.{Clean, I
 ghost use Rattle.osm_host.specs.declared.feed.Feed.TheVariants.{Ended, Failed, TooLong};
 ghost use Rattle.osm_opl_line.specs.Writing.{opl_text};
 ghost use Rattle.osm_opl.specs.Reader.{ReaderValue, WantsPull};
-ghost use Rattle.osm_opl.specs.Standing.{ComeFirst, IsOver, Stands, reader_reading};
+ghost use Rattle.osm_opl.specs.Standing.{IsOver, Stands, reader_reading};
 ghost use Rattle.osm_opl.specs.Written.{TookItems, TookSome};
 
 /// The items that a reader gave are the first of its file's, by the bytes that came up to its
@@ -19,7 +20,7 @@ ghost use Rattle.osm_opl.specs.Written.{TookItems, TookSome};
 /// of the file.
 pub fn readers_give_the_items_of_their_files()
     ensures first { (r : ReaderValue) (bytes : List ℕ) (came : Bool) (items : List ItemValue) →
-        Stands r bytes came items → ComeFirst items (reader_reading r bytes came).items }
+        Stands r bytes came items → IsPrefix items (reader_reading r bytes came).items }
     ensures wants { (r : ReaderValue) (bytes : List ℕ) (came : Bool) (items : List ItemValue) →
         Stands r bytes came items → WantsPull r → (reader_reading r bytes came).items ≡ items }
     ensures over { (r : ReaderValue) (bytes : List ℕ) (came : Bool) (items : List ItemValue) →
