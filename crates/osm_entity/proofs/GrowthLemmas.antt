@@ -40,8 +40,8 @@ by_end rule grows xs Broken t before =
     let later = grows_on rule grows xs before.rest in
     record {
       rest = later.rest ++ grows.last t.items t.end;
-      front = grows.ended t.items t.end
-          ∙ ap (λ items. (rule (broken_after items)).items ++ grows.last t.items t.end) before.front
+      prefix = grows.ended t.items t.end
+          ∙ ap (λ items. (rule (broken_after items)).items ++ grows.last t.items t.end) before.prefix
           ∙ ap (λ items. items ++ grows.last t.items t.end) later.joined
           ∙ append_assoc (rule (broken_after xs)).items later.rest (grows.last t.items t.end);
       done = λ is. absurd (let still : (rule (broken_after xs)).end ≡ Broken = grows.broken xs in cc);

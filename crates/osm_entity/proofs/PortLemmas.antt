@@ -91,7 +91,7 @@ prefix_added x port message p = elim (cases_eq p port) [
 
 -- no messages are before any stream
 pub before_none : (s : Stream) → IsBefore (stream_of []) s
-before_none s = record { rest = s.items; front = refl; done = λ is. cc }
+before_none s = record { rest = s.items; prefix = refl; done = λ is. cc }
 
 abbrev with_item : ItemValue → Stream → Stream
 with_item item s = record { items = item ∷ s.items; end = s.end }
@@ -102,7 +102,7 @@ pub before_more : (item : ItemValue) (xs ys : List ItemValue) (d e : End) →
     IsBefore (record { items = item ∷ xs; end = d }) (record { items = item ∷ ys; end = e })
 before_more item xs ys d e before = record {
   rest = before.rest;
-  front = ap (λ items. item ∷ items) before.front;
+  prefix = ap (λ items. item ∷ items) before.prefix;
   done = λ is. ap (with_item item) (before.done is);
 }
 

@@ -7,12 +7,12 @@ use Rattle.osm_entity.specs.declared.stream.End.{End}
 use Rattle.osm_entity.specs.declared.stream.End.TheVariants.{Done, Broken}
 
 pub before_itself : (a : Stream) → IsBefore a a
-before_itself a = record { rest = []; front = sym (append-nil a.items); done = λ is. refl }
+before_itself a = record { rest = []; prefix = sym (append-nil a.items); done = λ is. refl }
 
 pub before_onward : (a b c : Stream) → IsBefore a b → IsBefore b c → IsBefore a c
 before_onward a b c left right = record {
   rest = left.rest ++ right.rest;
-  front = right.front ∙ ap (λ items. items ++ right.rest) left.front ∙ append_assoc a.items left.rest right.rest;
+  prefix = right.prefix ∙ ap (λ items. items ++ right.rest) left.prefix ∙ append_assoc a.items left.rest right.rest;
   done = λ is. let same : a ≡ b = left.done is in
       same ∙ right.done (ap (λ (s : Stream). s.end) (sym same) ∙ is);
 }
@@ -27,8 +27,8 @@ both_by a b Done end_b is_a is_b left right = left.done is_a
 both_by a b Broken Done is_a is_b left right = sym (right.done is_b)
 both_by a b Broken Broken is_a is_b left right =
     let none : left.rest ≡ [] = nothing_more a.items left.rest right.rest
-    (right.front ∙ ap (λ items. items ++ right.rest) left.front) in
-    let items : a.items ≡ b.items = sym (left.front ∙ ap (λ rest. a.items ++ rest) none ∙ append-nil a.items) in
+    (right.prefix ∙ ap (λ items. items ++ right.rest) left.prefix) in
+    let items : a.items ≡ b.items = sym (left.prefix ∙ ap (λ rest. a.items ++ rest) none ∙ append-nil a.items) in
     let end : a.end ≡ b.end = is_a ∙ sym is_b in
     λ i. record { items = items i; end = end i }
 

@@ -13,5 +13,5 @@ pub record Stream : Type 0 where
 -- a stream is before another if its items come first there, and is the other where it is done
 pub record IsBefore (a b : Stream) : Type 0 where
   pub rest : List ItemValue
-  pub front : b.items ≡ a.items ++ rest
+  pub prefix : b.items ≡ a.items ++ rest
   pub done : a.end ≡ Done → a ≡ b

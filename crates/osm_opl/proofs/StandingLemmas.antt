@@ -256,7 +256,7 @@ before_now r bytes came items s =
     let first = gives_first r bytes came items s in
     record {
       rest = first.rest;
-      front = first.joined;
+      prefix = first.joined;
       done = λ done. let no : Broken ≡ Done = done in cc;
     }
 
@@ -289,7 +289,7 @@ before_later r bytes more items clean s =
     let grows = opl_reading-prefix r.flow (take r.limit bytes) (take (r.limit - length bytes) more) clean in
     record {
       rest = first.rest ++ grows.rest;
-      front = ap (λ (reading : Reading). reading.items) (reading-more r bytes more clean) ∙ grows.front
+      prefix = ap (λ (reading : Reading). reading.items) (reading-more r bytes more clean) ∙ grows.prefix
           ∙ ap (λ all. all ++ grows.rest) first.joined ∙ append_assoc items first.rest grows.rest;
       done = λ done. let no : Broken ≡ Done = done in cc;
     }

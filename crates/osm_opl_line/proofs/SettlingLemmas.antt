@@ -227,7 +227,7 @@ opl_reading-prefix flow bytes more any =
     1 in
     record {
       rest = begun.0;
-      front =
+      prefix =
           ap (λ lines. (read_lines flow any 1 lines).items) ys
           ∙ begun.1
           ∙ ap (λ lines. (read_lines flow false 1 lines).items ++ begun.0) (sym xs);
