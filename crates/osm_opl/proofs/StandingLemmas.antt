@@ -5,6 +5,7 @@ use Rattle.std.specs.declared.result.Result.{Result}
 use Rattle.std.proofs.lemmas.Bool.{cond_both, ltb-false, ltb-true}
 use Rattle.std.proofs.lemmas.List.{take_all, take-append-le}
 use Rattle.osm_entity.specs.Items.{ItemValue}
+use Rattle.osm_entity.specs.Prefixes.{IsPrefix}
 use Rattle.osm_entity.specs.Streams.{IsBefore}
 use Rattle.osm_entity.specs.declared.stream.End.TheVariants.{Done, Broken}
 use Rattle.osm_opl_line.proofs.SettlingLemmas.{opl_reading-prefix, opl_reading-settled}
@@ -21,7 +22,7 @@ use Rattle.osm_host.specs.declared.feed.Feed.TheVariants.{Open}
 use Rattle.osm_host.proofs.FeedLemmas.{may_end, take-limit, verdict_settled}
 use Rattle.osm_opl.specs.Reader.{ReaderValue, WantsPull}
 use Rattle.osm_opl.specs.Passing.{HasNoLine, SameRest, TakesLine, is_bad, item_in, items_in, passed}
-use Rattle.osm_opl.specs.Standing.{ComeFirst, GaveItems, Stands, reading_from, reader_reading}
+use Rattle.osm_opl.specs.Standing.{GaveItems, Stands, reading_from, reader_reading}
 use Rattle.osm_opl.specs.Unread.{UnreadValue, HasNoNewline, unread_bytes}
 use Rattle.osm_opl.proofs.KeepingLemmas.{held_all, settled_is}
 use Rattle.osm_opl.proofs.ReadingLemmas.{only, opl_reading-from, reading_from-none, is_line-open}
@@ -222,9 +223,9 @@ runs_or_not Memory = inr (λ e. cc)
 
 -- what a reader gave comes first in the items
 pub gives_first : (r : ReaderValue) (bytes : List ℕ) (came : Bool) (items : List ItemValue) →
-    Stands r bytes came items → ComeFirst items (reader_reading r bytes came).items
+    Stands r bytes came items → IsPrefix items (reader_reading r bytes came).items
 gives_first r bytes came items s =
-    elim (runs_or_not r.verdict) as (λ _. ComeFirst items (reader_reading r bytes came).items) [
+    elim (runs_or_not r.verdict) as (λ _. IsPrefix items (reader_reading r bytes came).items) [
       | inl run ↦ record {
         rest = (reading_from r.flow (r.lines + 1) (unread_bytes r.unread ++ []) came).items;
         joined = ap (λ reading. reading.items) (reading_now r bytes came items s run);
