@@ -1,3 +1,4 @@
+mod CountingReader
 pub mod GrowthLemmas
 pub mod KeyLemmas
 pub mod MachineLemmas
