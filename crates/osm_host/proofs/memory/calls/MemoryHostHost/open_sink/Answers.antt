@@ -1,6 +1,6 @@
 use Rattle.osm_host.specs.Tallies.{names_in}
 use Rattle.osm_host.proofs.Entered.{known-failed}
-use Rattle.osm_host.proofs.memory.held.MemoryHostHost.open_sink.Goals as goal
+use Rattle.osm_host.proofs.memory.calls.MemoryHostHost.open_sink.Goals as goal
 
 pub returns-then-fails-clause-known : goal.returns-then-fails-clause-known
 returns-then-fails-clause-known c =
