@@ -10,3 +10,17 @@ pub mod OpeningLemmas
 pub mod OutcomeLemmas
 pub mod SayingLemmas
 pub mod WordLemmas
+pub mod EachLemmas
+pub mod PlanLemmas
+pub mod FirstFaultLemmas
+pub mod CleanLemmas
+pub mod CountedLemmas
+pub mod HoldLemmas
+pub mod StayLemmas
+pub mod FirstInLemmas
+pub mod CauseOfLemmas
+pub mod EntryLemmas
+pub mod SameFirstLemmas
+pub mod WholeLemmas
+pub mod CompleteLemmas
+pub mod CalmStopLemmas

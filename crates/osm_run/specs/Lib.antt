@@ -4,7 +4,9 @@ pub mod Command
 pub mod Copying
 pub mod Course
 pub mod Faults
+pub mod Headline
 pub mod HowFar
+pub mod Lawful
 pub mod OnHost
 pub mod Outcome
 pub mod Plan

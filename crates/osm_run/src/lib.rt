@@ -5,6 +5,7 @@
 #![tactic(auto)]
 
 mod copying;
+mod laws;
 mod putting;
 mod reading;
 mod running;
@@ -13,5 +14,9 @@ mod status;
 mod tests;
 mod words;
 
+pub use laws::{
+    calm_runs_are_complete, calm_stops_are_complete, clean_runs, entries_come_with_files,
+    faults_have_causes, others_stay, refusals_change_nothing, writers_hold,
+};
 pub use running::run_alone;
 pub use status::{DeviceCall, Ends, Fault, SourceEnd, Status};
