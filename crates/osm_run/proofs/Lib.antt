@@ -24,3 +24,6 @@ pub mod SameFirstLemmas
 pub mod WholeLemmas
 pub mod CompleteLemmas
 pub mod CalmStopLemmas
+pub mod LawfulLemmas
+pub mod CopyReadLemmas
+pub mod CopyLawLemmas

@@ -10,6 +10,7 @@ pub mod Lawful
 pub mod OnHost
 pub mod Outcome
 pub mod Plan
+pub mod Promises
 pub mod Pulling
 pub mod Reading
 pub mod Tasks
