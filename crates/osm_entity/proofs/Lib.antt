@@ -1,3 +1,4 @@
+mod CountingReader
 pub mod GrowthLemmas
 pub mod KeyLemmas
 pub mod MachineLemmas
@@ -5,4 +6,4 @@ pub mod OneInputLemmas
 mod PassingMachine
 pub mod PortLemmas
 pub mod PrefixLemmas
-mod StreamLemmas
+pub mod StreamLemmas

@@ -1,7 +1,7 @@
 -- Lemmas on machines that are behind, and on those that stand for what they took and gave.
 use Rattle.std.proofs.Common.{◌≡◌, ℕ, ◌<◌, List, length, Bool, true, false, Option, Some, None, refl, sym, subst, ◌∙◌, arith}
 use Rattle.std.specs.Prelude.{◌≢◌, nat_lt, if◌then◌else◌}
-use Rattle.osm_entity.specs.Machines.{Given, Meanings, StandsFor, IsSameTask, IsBehind, TookPrefix, MayWant, AreLawful, meant_at, text_meant}
+use Rattle.osm_entity.specs.Machines.{Given, Meanings, StandsFor, IsSameTask, IsBehind, WrotePrefix, MayWant, AreLawful, meant_at, text_meant}
 use Rattle.osm_entity.specs.Meaning.{Finish, Whole, Passed, Cut, Wrong, finish_read}
 use Rattle.osm_entity.specs.Ports.{Ports, streams, HaveEnds, AreBefore}
 use Rattle.osm_entity.specs.Prefixes.{IsPrefix}
@@ -19,8 +19,8 @@ pub streams_before : (x more : Ports) → ((port : ℕ) → IsPrefix (x port) (m
     AreBefore (streams x) (streams more)
 streams_before x more prefix port = prefix_before (x port) (more port) (prefix port)
 
-took_onward : (taken : Option (List ℕ)) (text more : List ℕ) → TookPrefix taken text → IsPrefix text more →
-    TookPrefix taken more
+took_onward : (taken : Option (List ℕ)) (text more : List ℕ) → WrotePrefix taken text → IsPrefix text more →
+    WrotePrefix taken more
 took_onward None text more took prefix = tt
 took_onward (Some bytes) text more took prefix = prefix_onward bytes text more took prefix
 
@@ -59,8 +59,8 @@ unchanged_is_behind of old new x more y given laws same wrote devices prefix sta
     record {
       gave = subst (λ (t : TaskMeaning). (port : ℕ) → port < t.outputs →
           IsBefore (streams y port) (t.gives given.bytes given.came (streams more) port)) (sym same) grown.gave;
-      wrote = subst (λ taken. TookPrefix taken (text_meant of new more)) (sym wrote)
-          (subst (λ (t : TaskMeaning). TookPrefix (of.wrote old) (t.text (streams more))) (sym same) grown.wrote);
+      wrote = subst (λ taken. WrotePrefix taken (text_meant of new more)) (sym wrote)
+          (subst (λ (t : TaskMeaning). WrotePrefix (of.wrote old) (t.text (streams more))) (sym same) grown.wrote);
       devices = devices;
     }
 

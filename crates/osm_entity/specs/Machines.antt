@@ -66,19 +66,19 @@ verdict_meant of m x given =
     verdict_as (of.task m).limit (length given.bytes) ((of.task m).finish given.bytes given.came (streams x))
 
 -- where a sink tells what it took, that is a prefix of these bytes
-abbrev pub TookPrefix : Option (List ℕ) → List ℕ → Type 0
-TookPrefix None text = ⊤
-TookPrefix (Some taken) text = IsPrefix taken text
+abbrev pub WrotePrefix : Option (List ℕ) → List ℕ → Type 0
+WrotePrefix None text = ⊤
+WrotePrefix (Some taken) text = IsPrefix taken text
 
 -- where a sink tells what it took, that is these bytes
-abbrev pub TookAll : Option (List ℕ) → List ℕ → Type 0
-TookAll None text = ⊤
-TookAll (Some taken) text = taken ≡ text
+abbrev pub WroteAll : Option (List ℕ) → List ℕ → Type 0
+WroteAll None text = ⊤
+WroteAll (Some taken) text = taken ≡ text
 
 -- a machine is behind, whatever happened: what it gave is before what is meant, and its sink took a prefix of that
 pub record IsBehind {M : Type 0} (of : Meanings M) (m : M) (x y : Ports) (given : Given M) : Type 0 where
   pub gave : (port : ℕ) → port < (of.task m).outputs → IsBefore (streams y port) (meant_at of m x given port)
-  pub wrote : TookPrefix (of.wrote m) (text_meant of m x)
+  pub wrote : WrotePrefix (of.wrote m) (text_meant of m x)
   pub devices : of.devices m given
 
 -- a machine that found no memory says so, and is behind
@@ -117,7 +117,7 @@ pub record HasEnded {M : Type 0} (of : Meanings M) (m : M) (x y : Ports) (given 
   pub took_ends : HaveEnds (of.task m).inputs x
   pub gave_ends : HaveEnds (of.task m).outputs y
   pub whole : (port : ℕ) → port < (of.task m).outputs → streams y port ≡ meant_at of m x given port
-  pub wrote : of.verdict m ≢ Write → TookAll (of.wrote m) (text_meant of m x)
+  pub wrote : of.verdict m ≢ Write → WroteAll (of.wrote m) (text_meant of m x)
   pub judged : of.verdict m ≢ Write → of.verdict m ≡ verdict_meant of m x given
 
 -- a machine may want this, by what it took and gave

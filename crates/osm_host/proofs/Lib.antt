@@ -4,3 +4,4 @@ pub mod Held
 pub mod Named
 pub mod Planned
 pub mod PullLemmas
+pub mod Raised

@@ -1,10 +1,11 @@
 -- What one pull of a source gave its reader, for readers of any format.
-use Rattle.std.proofs.Common.{◌≡◌, ℕ, ◌+◌, ◌-◌, ◌^◌, ◌<◌, ◌≤◌, List, [], ◌∷◌, length, refl, sym, ◌∙◌, subst, arith}
+use Rattle.std.proofs.Common.{◌≡◌, ℕ, ◌+◌, ◌-◌, ◌^◌, ◌<◌, ◌≤◌, List, [], ◌∷◌, length, refl, sym, ap, ◌∙◌, subst, arith, ◌++◌, append_assoc}
 use Rattle.std.specs.Prelude.{Option, Some, None, min}
 use Rattle.std.specs.Io.KnownBytes.{prepend_known, IsAtEnd}
+use Rattle.std.proofs.lemmas.List.{length-append}
 use Rattle.osm_host.specs.Counts.{Rises, last_count, raised}
 use Rattle.osm_host.specs.Feeds.{feed_after}
-use Rattle.osm_host.specs.Pulls.{FeedValue, FitsPull, PullGave, SourceValue, piece_size}
+use Rattle.osm_host.specs.Pulls.{FeedValue, FitsPull, PullGave, SourceGave, SourceValue, piece_size}
 use Rattle.osm_host.specs.declared.feed.Feed.TheVariants.{Failed}
 use Rattle.osm_host.proofs.FeedLemmas.{after_pull, ended_after, faults_after}
 
@@ -31,8 +32,7 @@ pub pull_gave : (before now : SourceValue) (old new : FeedValue) (bytes : List �
     now.faults ≡ before.faults → new.given ≡ min (old.given + length bytes) last_count →
     new.feed ≡ feed_after (length bytes) (old.limit - old.given) → PullGave before now old new bytes
 pull_gave before now old new bytes within sized small told gave ended faults is feed_is = record {
-  told = told;
-  gave = gave;
+  source = record { told = told; counted = gave };
   counted = omega (arith, is, within, sized);
   fits = subst (λ feed. FitsPull feed (old.limit - old.given) bytes) (sym feed_is)
       (fits_pull bytes (old.limit - old.given));
@@ -41,17 +41,40 @@ pull_gave before now old new bytes within sized small told gave ended faults is 
   faults = rw feed_is (faults_after (length bytes) (old.limit - old.given) before.faults now.faults faults);
 }
 
+-- bytes before bytes that are before some
+pub prepend-more : (a b : List ℕ) (o : Option (List ℕ)) →
+    prepend_known a (prepend_known b o) ≡ prepend_known (a ++ b) o
+prepend-more a b None = refl
+prepend-more a b (Some bytes) = ap Some (sym (append_assoc a b bytes))
+
 -- no byte raises no count
 raised-none : (count : ℕ) → count ≡ raised count 0
 raised-none count = omega arith
+
+-- at first a source gave nothing
+pub source_gave-nil : (source : SourceValue) → SourceGave source source []
+source_gave-nil source = record {
+  told = sym (prepend-nil source.rest);
+  counted = raised-none source.given;
+}
+
+-- what a source gave, and what it gave then
+pub source_gave-more : (first mid now : SourceValue) (bytes more : List ℕ) → SourceGave first mid bytes →
+    SourceGave mid now more → SourceGave first now (bytes ++ more)
+source_gave-more first mid now bytes more one two = record {
+  told = one.told ∙ ap (prepend_known bytes) two.told ∙ prepend-more bytes more now.rest;
+  counted = omega (arith, one.counted, two.counted, length-append bytes more);
+}
 
 -- a pull that failed gave nothing
 pub pull_failed : (before now : SourceValue) (old new : FeedValue) → now.rest ≡ before.rest →
     now.given ≡ before.given → Rises before.faults now.faults → new.given ≡ old.given → new.feed ≡ Failed →
     PullGave before now old new []
 pull_failed before now old new left idle rises same is = record {
-  told = sym (prepend-nil now.rest ∙ left);
-  gave = idle ∙ raised-none before.given;
+  source = record {
+    told = sym (prepend-nil now.rest ∙ left);
+    counted = idle ∙ raised-none before.given;
+  };
   counted = same ∙ raised-none old.given;
   fits = rw is refl;
   small = omega arith;

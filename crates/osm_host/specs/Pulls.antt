@@ -26,6 +26,11 @@ source_value rest given faults source = record {
   faults = faults source;
 }
 
+-- since an earlier moment a source gave these bytes: they were the next of what was left, and it counted them
+pub record SourceGave (before now : SourceValue) (bytes : List ℕ) : Type 0 where
+  pub told : before.rest ≡ prepend_known bytes now.rest
+  pub counted : now.given ≡ raised before.given (length bytes)
+
 -- what a reader of any format keeps of its source: its limit, how many bytes came, and how it stands with it
 pub record FeedValue : Type 0 where
   pub limit : ℕ
@@ -39,10 +44,9 @@ FitsPull Ended room bytes = bytes ≡ []
 FitsPull Failed room bytes = bytes ≡ []
 FitsPull TooLong room bytes = room < length bytes
 
--- a pull gave these bytes: they are the next of the source, and it and its reader counted them; none came where it failed
+-- a pull gave these bytes, and the source's reader counted them too; none came where the pull failed
 pub record PullGave (before now : SourceValue) (old new : FeedValue) (bytes : List ℕ) : Type 0 where
-  pub told : before.rest ≡ prepend_known bytes now.rest
-  pub gave : now.given ≡ raised before.given (length bytes)
+  pub source : SourceGave before now bytes
   pub counted : new.given ≡ raised old.given (length bytes)
   pub fits : FitsPull new.feed (old.limit - old.given) bytes
   pub small : length bytes ≤ piece_size

@@ -4,5 +4,5 @@ use Rattle.std.specs.Prelude.{ℕ, ◌≡◌, ◌≤◌, List, length, take, Opt
 use Rattle.std.specs.Io.KnownBytes.{append_known}
 
 -- a sink took a prefix of these bytes
-abbrev pub TookPrefix : List ℕ → Option (List ℕ) → Option (List ℕ) → Type 0
-TookPrefix bytes before now = (k : ℕ) × (k ≤ length bytes) × (now ≡ append_known before (take k bytes))
+abbrev pub TakesPrefix : List ℕ → Option (List ℕ) → Option (List ℕ) → Type 0
+TakesPrefix bytes before now = (k : ℕ) × (k ≤ length bytes) × (now ≡ append_known before (take k bytes))

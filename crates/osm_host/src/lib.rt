@@ -3,6 +3,7 @@
 
 mod feed;
 mod memory;
+mod naming;
 mod outside;
 mod tallies;
 #[cfg(test)]

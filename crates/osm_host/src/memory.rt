@@ -1,5 +1,6 @@
 //! A host whose files lie in memory, with its sources and sinks. It tells everything.
 
+mod calls;
 mod files;
 mod held;
 mod plan;

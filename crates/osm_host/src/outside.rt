@@ -161,12 +161,13 @@ pub trait Host {
         ensures files { files self.new ≡ files self.old }
         ensures said { said self.new ≡ said self.old }
         ensures mute { mute self.new ≡ mute self.old }
-        ensures counts { Adds Pull name.now (Self.In.faults source) (count self.old) (count self.new) }
+        ensures counts { Adds Pull name.now (Self.In.faults source)
+            (count self.old) (count self.new) }
         ensures gave { GaveOnly name.now (Self.In.given source) (gave self.old) (gave self.new) }
         ensures known { known self.new ≡ known self.old };
 
-    /// Makes the file of this name empty, and opens it to be written. The new sink took nothing yet:
-    /// what it tells of its bytes is empty, and it tells them where the host tells its files.
+    /// Makes the file of this name empty, and opens it to be written. The new sink took nothing
+    /// yet: what it tells of its bytes is empty, and it tells where the host tells its files.
     fn open_sink(&mut self, name: &Text) -> Result<Self::Out, HostError>
         ensures name { IfOk result (λ k. Self.Out.name k ≡ name.now) }
         ensures taken { IfOk result (λ k. IsEmptyWhereTold (files self.old) (Self.Out.taken k)) }
@@ -186,10 +187,12 @@ pub trait Host {
         requires known { Contains (known self.old) name.now }
         requires name { Self.Out.name sink ≡ name.now }
 
-        ensures files { KeepsFile result name.now (Self.Out.taken sink) (files self.old) (files self.new) }
+        ensures files { KeepsFile result name.now (Self.Out.taken sink)
+            (files self.old) (files self.new) }
         ensures said { said self.new ≡ said self.old }
         ensures mute { mute self.new ≡ mute self.old }
-        ensures counts { KeepCounts name.now (Self.Out.faults sink) (count self.old) (count self.new) result }
+        ensures counts { KeepCounts name.now (Self.Out.faults sink)
+            (count self.old) (count self.new) result }
         ensures gave { (n : List ℕ) → gave self.new n ≡ gave self.old n }
         ensures known { known self.new ≡ known self.old };
 

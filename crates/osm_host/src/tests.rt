@@ -49,5 +49,7 @@ fn calls_answer_where_there_is_memory(rt: HostRuntime) -> Result<(), Fail> {
         assert_eq!(rt; host.say(&[b'x'; 4096]), Ok(()));
     }
     assert_eq!(rt; host.say(b""), Ok(()));
+    assert_eq!(rt; host.said().len(), 524_288);
+    assert_eq!(rt; host.files().len(), 1);
     Ok(())
 }

@@ -1,7 +1,8 @@
 //! A writer that gathers what it is given, and writes it in large pieces.
 ghost use Rattle.std.specs.Prelude.{◌≡◌, [], true, false, OnOk, OnErr, IfOk};
 ghost use Rattle.std.specs.Io.KnownBytes.{Appends};
-ghost use Rattle.osm_host_std.specs.Gathered.{held, has_failed};
+ghost use Rattle.osm_host_std.specs.Gathered.{held, write_failed, GathersPrefix};
+ghost use Rattle.osm_host_std.specs.Written.{AppendsPrefix};
 
 use crate::output::Output;
 use osm_entity::NoMemory;
@@ -35,7 +36,7 @@ impl<F> Gatherer<F> {
         requires { room.items ≡ [] }
         ensures file { result.output.file ≡ file }
         ensures none { result.gathered.items ≡ [] }
-        ensures sound { has_failed result ≡ false }
+        ensures sound { write_failed result ≡ false }
     {
         Gatherer {
             output: Output::new(file),
@@ -45,7 +46,7 @@ impl<F> Gatherer<F> {
 
     /// Whether a write failed. Nothing can be taken after that.
     pub(crate) fn has_failed(&self) -> bool
-        ensures { result ≡ has_failed self.now }
+        ensures { result ≡ write_failed self.now }
     {
         self.output.has_failed()
     }
@@ -53,19 +54,22 @@ impl<F> Gatherer<F> {
 
 impl<F: Write> Gatherer<F> {
     /// Takes the bytes. Where there is no room for them, it first writes what was gathered; more
-    /// bytes than the whole room has are written at once. At `Err` a write failed.
+    /// bytes than the whole room has are written at once. At `Err` a write failed, and the file took
+    /// a prefix of what was gathered and of these.
+    #[tactic(auto, using(crate::proofs::WrittenLemmas::prefix_of_more))]
     pub(crate) fn take(&mut self, bytes: &[u8]) -> Result<(), Failed>
-        requires sound { has_failed self.old ≡ false }
+        requires sound { write_failed self.old ≡ false }
         ensures ok { OnOk result
             (Appends (held F.contents self.old) (held F.contents self.new) bytes.now) }
-        ensures sound { OnOk result (has_failed self.new ≡ false) }
-        ensures failed { OnErr result (has_failed self.new ≡ true) }
+        ensures err { OnErr result (GathersPrefix F.contents self.old self.new bytes.now) }
+        ensures sound { OnOk result (write_failed self.new ≡ false) }
+        ensures failed { OnErr result (write_failed self.new ≡ true) }
     {
         if bytes.len() > self.gathered.capacity() - self.gathered.len() {
             self.write_out()?;
-        }
-        if bytes.len() > self.gathered.capacity() {
-            return self.output.write(bytes);
+            if bytes.len() > self.gathered.capacity() {
+                return self.output.write(bytes);
+            }
         }
         match self.gathered.extend_from_slice(bytes) {
             Ok(()) => Ok(()),
@@ -75,12 +79,14 @@ impl<F: Write> Gatherer<F> {
 
     // Writes what was gathered.
     fn write_out(&mut self) -> Result<(), Failed>
-        requires sound { has_failed self.old ≡ false }
+        requires sound { write_failed self.old ≡ false }
         ensures none { OnOk result (self.new.gathered.items ≡ []) }
         ensures ok { OnOk result
             (Appends (held F.contents self.old) (F.contents self.new.output.file) []) }
-        ensures sound { OnOk result (has_failed self.new ≡ false) }
-        ensures failed { OnErr result (has_failed self.new ≡ true) }
+        ensures err { OnErr result (AppendsPrefix (F.contents self.old.output.file)
+            (F.contents self.new.output.file) self.old.gathered.items) }
+        ensures sound { OnOk result (write_failed self.new ≡ false) }
+        ensures failed { OnErr result (write_failed self.new ≡ true) }
     {
         self.output.write(self.gathered.as_slice())?;
         self.gathered.clear();
@@ -91,7 +97,7 @@ impl<F: Write> Gatherer<F> {
     pub(crate) fn finish(mut self) -> Result<F, Failed>
     where
         F: Drop,
-        requires sound { has_failed self ≡ false }
+        requires sound { write_failed self ≡ false }
         ensures ok { IfOk result (λ file. Appends (held F.contents self) (F.contents file) []) }
     {
         self.write_out()?;

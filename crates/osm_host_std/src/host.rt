@@ -5,7 +5,7 @@ ghost use Rattle.std.specs.Str.{IsUtf8};
 ghost use Rattle.osm_host.specs.Counts.{Adds, CountsFailure, CountsOfCall, GaveOnly, KeepCounts};
 ghost use Rattle.osm_host.specs.Names.{KnownByCall};
 ghost use Rattle.osm_host.specs.declared.outside.Op.TheVariants.{Open, Make, Pull};
-ghost use Rattle.osm_host_std.specs.Gathered.{IsWrittenOut, has_failed};
+ghost use Rattle.osm_host_std.specs.Gathered.{IsWrittenOut, write_failed};
 ghost use Rattle.osm_host_std.specs.Opened.{AddsSource, AddsSink, SameOpenings};
 
 use crate::gatherer;
@@ -145,7 +145,7 @@ where
             (names_in self.old.tallies) (names_in self.new.tallies) result }
 
         // Which file was opened, and that it can be written.
-        ensures sound { IfOk result (λ k. has_failed k.gatherer ≡ false) }
+        ensures sound { IfOk result (λ k. write_failed k.gatherer ≡ false) }
         ensures opened { IfOk result (λ k. AddsSink self.old.openings self.new.openings k.identity) }
         ensures unopened { OnErr result (SameOpenings self.old.openings self.new.openings) }
     {

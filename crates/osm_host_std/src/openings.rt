@@ -1,5 +1,5 @@
 //! Which files were opened, so that one file under two names is not read and written at once.
-ghost use Rattle.std.specs.Prelude.{◌≡◌, ◌<◌, ◌↔◌, [], true, vec_len, vec_capacity, IsTrue, IsSome, IfOk, OnOk, OnErr};
+ghost use Rattle.std.specs.Prelude.{◌≡◌, ◌<◌, ◌↔◌, [], true, vec_len, vec_capacity, IsTrue, IsSome, Ok, IfOk, OnOk, OnErr};
 ghost use Rattle.std.specs.Fs.{file_type, IsFile, new_options, with_write, with_create};
 ghost use Rattle.osm_host_std.specs.Opened.{IsAmong, IsFree, AddsSource, AddsSink, SameOpenings};
 
@@ -47,7 +47,9 @@ fn identity_of(metadata: &Metadata) -> Option<Identity>
 }
 
 // Looks which file was opened.
-fn look<F: OpenFile + Drop>(opening: io::Result<F>) -> Result<Opened<F>, Failed> {
+fn look<F: OpenFile + Drop>(opening: io::Result<F>) -> Result<Opened<F>, Failed>
+    ensures { IfOk result (λ opened. opening ≡ Ok opened.file) }
+{
     let Ok(file) = opening else {
         return Err(Failed);
     };

@@ -1,6 +1,7 @@
 //! A file that is written until a write of it fails.
 ghost use Rattle.std.specs.Prelude.{◌≡◌, true, false, OnOk, OnErr};
 ghost use Rattle.std.specs.Io.KnownBytes.{Appends};
+ghost use Rattle.osm_host_std.specs.Written.{AppendsPrefix};
 
 use crate::transfers::write_whole;
 use osm_host::Failed;
@@ -46,6 +47,8 @@ impl<F: Write> Output<F> {
         requires sound { self.old.has_failed ≡ false }
         ensures ok { OnOk result
             (Appends (F.contents self.old.file) (F.contents self.new.file) bytes.now) }
+        ensures err { OnErr result
+            (AppendsPrefix (F.contents self.old.file) (F.contents self.new.file) bytes.now) }
         ensures sound { OnOk result (self.new.has_failed ≡ false) }
         ensures failed { OnErr result (self.new.has_failed ≡ true) }
     {

@@ -4,7 +4,7 @@ ghost use Rattle.std.specs.Io.KnownBytes.{Appends};
 ghost use Rattle.osm_host.specs.Contents.{PutTakes};
 ghost use Rattle.osm_host.specs.Counts.{CountsRefusal};
 ghost use Rattle.osm_host.specs.declared.outside.HostError.TheVariants.{Memory};
-ghost use Rattle.osm_host_std.specs.Gathered.{held, has_failed};
+ghost use Rattle.osm_host_std.specs.Gathered.{held, write_failed, GathersPrefix};
 
 use crate::gatherer::Gatherer;
 use crate::openings::{Identity, Opened};
@@ -34,7 +34,7 @@ impl<F> FileSink<F> {
         requires { room.items ≡ [] }
         ensures name { result.name ≡ name }
         ensures identity { result.identity ≡ opened.identity }
-        ensures sound { has_failed result.gatherer ≡ false }
+        ensures sound { write_failed result.gatherer ≡ false }
         ensures fresh { result.faults ≡ 0 }
     {
         FileSink {
@@ -59,7 +59,7 @@ impl<F: Write> FileSink<F> {
     pub(crate) fn finish(self) -> Result<F, Failed>
     where
         F: Drop,
-        ensures sound { OnOk result (has_failed self.gatherer ≡ false) }
+        ensures sound { OnOk result (write_failed self.gatherer ≡ false) }
         ensures ok { IfOk result (λ file.
             Appends (held F.contents self.gatherer) (F.contents file) []) }
     {
@@ -88,10 +88,12 @@ impl<F: Write> Sink for FileSink<F> {
             (Appends (held F.contents self.old.gatherer) (held F.contents self.new.gatherer)
             bytes.now) }
 
-        // After a put that failed each is refused, and nothing is written.
-        ensures failed { OnErr result (has_failed self.new.gatherer ≡ true) }
-        ensures refused { has_failed self.old.gatherer ≡ true → IsErrOf result HostError.Failed }
-        ensures idle { has_failed self.old.gatherer ≡ true →
+        // A put that fails leaves a prefix. After it each is refused, and nothing is written.
+        ensures prefix { OnErr result
+            (GathersPrefix F.contents self.old.gatherer self.new.gatherer bytes.now) }
+        ensures failed { OnErr result (write_failed self.new.gatherer ≡ true) }
+        ensures refused { write_failed self.old.gatherer ≡ true → IsErrOf result HostError.Failed }
+        ensures idle { write_failed self.old.gatherer ≡ true →
             self.new.gatherer ≡ self.old.gatherer }
     {
         if self.gatherer.has_failed() || self.gatherer.take(bytes).is_err() {

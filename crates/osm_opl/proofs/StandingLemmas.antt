@@ -5,6 +5,7 @@ use Rattle.std.specs.declared.result.Result.{Result}
 use Rattle.std.proofs.lemmas.Bool.{cond_both, ltb-false, ltb-true}
 use Rattle.std.proofs.lemmas.List.{take_all, take-append-le}
 use Rattle.osm_entity.specs.Items.{ItemValue}
+use Rattle.osm_entity.specs.Prefixes.{IsPrefix}
 use Rattle.osm_entity.specs.Streams.{IsBefore}
 use Rattle.osm_entity.specs.declared.stream.End.TheVariants.{Done, Broken}
 use Rattle.osm_opl_line.proofs.SettlingLemmas.{opl_reading-prefix, opl_reading-settled}
@@ -21,7 +22,7 @@ use Rattle.osm_host.specs.declared.feed.Feed.TheVariants.{Open}
 use Rattle.osm_host.proofs.FeedLemmas.{may_end, take-limit, verdict_settled}
 use Rattle.osm_opl.specs.Reader.{ReaderValue, WantsPull}
 use Rattle.osm_opl.specs.Passing.{HasNoLine, SameRest, TakesLine, is_bad, item_in, items_in, passed}
-use Rattle.osm_opl.specs.Standing.{ComeFirst, GaveItems, Stands, reading_from, reader_reading}
+use Rattle.osm_opl.specs.Standing.{GaveItems, Stands, reading_from, reader_reading}
 use Rattle.osm_opl.specs.Unread.{UnreadValue, HasNoNewline, unread_bytes}
 use Rattle.osm_opl.proofs.KeepingLemmas.{held_all, settled_is}
 use Rattle.osm_opl.proofs.ReadingLemmas.{only, opl_reading-from, reading_from-none, is_line-open}
@@ -222,9 +223,9 @@ runs_or_not Memory = inr (λ e. cc)
 
 -- what a reader gave comes first in the items
 pub gives_first : (r : ReaderValue) (bytes : List ℕ) (came : Bool) (items : List ItemValue) →
-    Stands r bytes came items → ComeFirst items (reader_reading r bytes came).items
+    Stands r bytes came items → IsPrefix items (reader_reading r bytes came).items
 gives_first r bytes came items s =
-    elim (runs_or_not r.verdict) as (λ _. ComeFirst items (reader_reading r bytes came).items) [
+    elim (runs_or_not r.verdict) as (λ _. IsPrefix items (reader_reading r bytes came).items) [
       | inl run ↦ record {
         rest = (reading_from r.flow (r.lines + 1) (unread_bytes r.unread ++ []) came).items;
         joined = ap (λ reading. reading.items) (reading_now r bytes came items s run);
@@ -253,10 +254,8 @@ gives_all r bytes came items s wants =
 pub before_now : (r : ReaderValue) (bytes : List ℕ) (came : Bool) (items : List ItemValue) → Stands r bytes came items →
     IsBefore (record { items = items; end = Broken }) (stream_read (reader_reading r bytes came))
 before_now r bytes came items s =
-    let first = gives_first r bytes came items s in
     record {
-      rest = first.rest;
-      front = first.joined;
+      items = gives_first r bytes came items s;
       done = λ done. let no : Broken ≡ Done = done in cc;
     }
 
@@ -288,9 +287,11 @@ before_later r bytes more items clean s =
     let first = gives_first r bytes false items s in
     let grows = opl_reading-prefix r.flow (take r.limit bytes) (take (r.limit - length bytes) more) clean in
     record {
-      rest = first.rest ++ grows.rest;
-      front = ap (λ (reading : Reading). reading.items) (reading-more r bytes more clean) ∙ grows.front
-          ∙ ap (λ all. all ++ grows.rest) first.joined ∙ append_assoc items first.rest grows.rest;
+      items = record {
+        rest = first.rest ++ grows.items.rest;
+        joined = ap (λ (reading : Reading). reading.items) (reading-more r bytes more clean) ∙ grows.items.joined
+            ∙ ap (λ all. all ++ grows.items.rest) first.joined ∙ append_assoc items first.rest grows.items.rest;
+      };
       done = λ done. let no : Broken ≡ Done = done in cc;
     }
 

@@ -10,7 +10,7 @@ use Rattle.std.proofs.Math.Seq.{take-append-add}
 use Rattle.osm_entity.specs.Items.{ItemValue}
 use Rattle.osm_entity.specs.Streams.{Stream}
 use Rattle.osm_host.specs.Contents.{PutTakes}
-use Rattle.osm_host.specs.Puts.{TookPrefix}
+use Rattle.osm_host.specs.Puts.{TakesPrefix}
 use Rattle.osm_host.specs.declared.outside.HostError.{HostError}
 use Rattle.osm_host.specs.declared.outside.HostError.TheVariants.{Failed, Memory}
 use Rattle.osm_opl_line.specs.Writing.{line_text, opl_text}
@@ -54,7 +54,7 @@ took_next first before now items item put took =
 
 -- bytes and a prefix of more are a prefix of all
 prefix-behind : (first before now : Option (List ℕ)) (a b : List ℕ) → before ≡ append_known first a →
-    TookPrefix b before now → TookPrefix (a ++ b) first now
+    TakesPrefix b before now → TakesPrefix (a ++ b) first now
 prefix-behind first before now a b is (k, fits, took) = (
   length a + k,
   omega (arith, fits, length-append a b),
@@ -63,13 +63,13 @@ prefix-behind first before now a b is (k, fits, took) = (
 )
 
 -- a prefix of bytes is one of more bytes
-prefix-more : (first now : Option (List ℕ)) (a b : List ℕ) → TookPrefix a first now → TookPrefix (a ++ b) first now
+prefix-more : (first now : Option (List ℕ)) (a b : List ℕ) → TakesPrefix a first now → TakesPrefix (a ++ b) first now
 prefix-more first now a b (k, fits, took) =
     (k, omega (arith, fits, length-append a b), took ∙ ap (append_known first) (sym (take-append-le k a b fits)))
 
 -- a sink that took the lines of items took a prefix of one more
 pub took_some-next : (first before now : Option (List ℕ)) (items : List ItemValue) (item : ItemValue) →
-    TookPrefix (line_text item) before now → TookItems first before items →
+    TakesPrefix (line_text item) before now → TookItems first before items →
     TookSome first now (items ++ item ∷ [])
 took_some-next first before now items item put took =
     rw (text-next items item)
@@ -109,6 +109,6 @@ pub took_part : {T : Type 0} (r : Result T HostError) (text : List ℕ) (item : 
     TookSome first now (items ++ item ∷ []))
 took_part (Ok x) text item before now is took = tt
 took_part (Err Failed) text item before now is took = λ first items all.
-    took_some-next first before now items item (subst (λ t. TookPrefix t before now) is took) all
+    took_some-next first before now items item (subst (λ t. TakesPrefix t before now) is took) all
 took_part (Err Memory) text item before now is took = λ first items all.
     took_some first now items (item ∷ []) (took ∙ all)

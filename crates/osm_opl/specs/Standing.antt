@@ -43,11 +43,6 @@ pub record Stands (r : ReaderValue) (bytes : List ℕ) (came : Bool) (items : Li
   pub running : r.verdict ≡ Running → GoesOn r bytes items
   pub over : r.verdict ≢ Running → IsOver r bytes came items
 
--- these items are the first of those
-pub record ComeFirst (items all : List ItemValue) : Type 0 where
-  pub rest : List ItemValue
-  pub joined : all ≡ items ++ rest
-
 -- a reader gave these items: whatever it stood for, it stands for with them added
 abbrev pub GaveItems : ReaderValue → ReaderValue → List ItemValue → Type 0
 GaveItems old new more =

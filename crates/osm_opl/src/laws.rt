@@ -2,6 +2,7 @@
 ghost use Rattle.std.specs.Prelude.{◌≡◌, ◌≢◌, ◌++◌, [], ℕ, List, Bool, Option, false};
 ghost use Rattle.std.specs.Io.KnownBytes.{append_known};
 ghost use Rattle.osm_entity.specs.Items.{ItemValue};
+ghost use Rattle.osm_entity.specs.Prefixes.{IsPrefix};
 ghost use Rattle.osm_entity.specs.Readings.{stream_read};
 ghost use Rattle.osm_entity.specs.Streams.{IsBefore, Stream};
 ghost use Rattle.osm_entity.specs.declared.stream.End.TheVariants.{Broken};
@@ -11,15 +12,15 @@ ghost use Rattle.osm_entity.specs.declared.verdict.Verdict.TheVariants.{Clean, I
 ghost use Rattle.osm_host.specs.declared.feed.Feed.TheVariants.{Ended, Failed, TooLong};
 ghost use Rattle.osm_opl_line.specs.Writing.{opl_text};
 ghost use Rattle.osm_opl.specs.Reader.{ReaderValue, WantsPull};
-ghost use Rattle.osm_opl.specs.Standing.{ComeFirst, IsOver, Stands, reader_reading};
+ghost use Rattle.osm_opl.specs.Standing.{IsOver, Stands, reader_reading};
 ghost use Rattle.osm_opl.specs.Written.{TookItems, TookSome};
 
-/// The items that a reader gave are the first of its file's, by the bytes that came up to its
-/// limit. They are all of them where it wants a pull, and where it has a verdict, which is then that
-/// of the file.
+/// The items that a reader gave are a prefix of its file's, by the bytes that came up to its
+/// limit. They are all of them where it wants a pull, and where it has a verdict, which is then
+/// that of the file.
 pub fn readers_give_the_items_of_their_files()
     ensures first { (r : ReaderValue) (bytes : List ℕ) (came : Bool) (items : List ItemValue) →
-        Stands r bytes came items → ComeFirst items (reader_reading r bytes came).items }
+        Stands r bytes came items → IsPrefix items (reader_reading r bytes came).items }
     ensures wants { (r : ReaderValue) (bytes : List ℕ) (came : Bool) (items : List ItemValue) →
         Stands r bytes came items → WantsPull r → (reader_reading r bytes came).items ≡ items }
     ensures over { (r : ReaderValue) (bytes : List ℕ) (came : Bool) (items : List ItemValue) →
@@ -32,8 +33,8 @@ pub fn readers_come_before_their_files()
     ensures now { (r : ReaderValue) (bytes : List ℕ) (came : Bool) (items : List ItemValue) →
         Stands r bytes came items → IsBefore (record { items = items; end = Broken })
         (stream_read (reader_reading r bytes came)) }
-    ensures later { (r : ReaderValue) (bytes more : List ℕ) (items : List ItemValue) (clean : Bool) →
-        Stands r bytes false items → IsBefore (record { items = items; end = Broken })
+    ensures later { (r : ReaderValue) (bytes more : List ℕ) (items : List ItemValue)
+        (clean : Bool) → Stands r bytes false items → IsBefore (record { items = items; end = Broken })
         (stream_read (reader_reading r (bytes ++ more) clean)) }
     ensures bad { (r : ReaderValue) (bytes more : List ℕ) (items : List ItemValue) (clean : Bool)
         (cause : Cause) (spot : Spot) → Stands r bytes false items → r.verdict ≡ Input cause spot →
@@ -51,8 +52,8 @@ pub fn readers_blame_their_sources_rightly()
         Stands r bytes came items → r.verdict ≡ PastLimit → r.feed ≡ TooLong }
 {}
 
-/// At first a sink took the lines of no items. Those of a stream's items are the stream's file, and
-/// a prefix of those of some items is one of those of more.
+/// At first a sink took the lines of no items. Those of a stream's items are the stream's file,
+/// and a prefix of those of some items is one of those of more.
 pub fn writers_put_files()
     ensures none { (first : Option (List ℕ)) → TookItems first first [] }
     ensures file { (first now : Option (List ℕ)) (s : Stream) → TookItems first now s.items →

@@ -19,8 +19,8 @@ use std::alloc::Global;
 use std::marker::Model;
 
 /// Reads an OPL file from a source, which is passed to each pull. Where `pull` is called only after
-/// `next` answered `None`, it holds one piece of 64 KiB, and at most 16,777,216 bytes of a line that
-/// began in earlier pieces. A pull before that keeps what is left, and so holds a piece more.
+/// `next` answered `None`, it holds one piece of 64 KiB, and at most 16,777,216 bytes of a line
+/// that began in earlier pieces. A pull before that keeps what is left, and so adds a piece.
 #[derive(Drop)]
 pub struct OplReader {
     alloc: Global,
@@ -99,8 +99,8 @@ impl OplReader {
     /// Pulls once. It may be called while the verdict is running, and no earlier pull failed, ended
     /// or passed the limit; items that weren't taken yet are kept. The source's failure, its end or
     /// its excess becomes the verdict once the items before it have been given. After a failed pull
-    /// no byte came. It takes memory only where bytes are left of the pull before; at `NoMemory` the
-    /// reader and the source are as they were.
+    /// no byte came. It takes memory only where bytes are left of the pull before; at `NoMemory`
+    /// the reader and the source are as they were.
     pub fn pull<S: Source>(&mut self, source: &mut S) -> Result<(), NoMemory>
         requires { CanPull self.old }
         // What came, and what the reader stands for then.

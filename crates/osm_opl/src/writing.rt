@@ -3,7 +3,7 @@ ghost use Rattle.std.specs.Prelude.{◌≡◌, [], ◌∷◌, ◌++◌, ℕ, Lis
 ghost use Rattle.std.specs.Io.KnownBytes.{append_known};
 ghost use Rattle.osm_entity.specs.Items.{ItemValue};
 ghost use Rattle.osm_host.specs.Counts.{CountsRefusal};
-ghost use Rattle.osm_host.specs.Puts.{TookPrefix};
+ghost use Rattle.osm_host.specs.Puts.{TakesPrefix};
 ghost use Rattle.osm_opl_line.specs.Writing.{line_text};
 ghost use Rattle.osm_opl.specs.Written.{TookItems, TookSome};
 
@@ -16,8 +16,8 @@ use std::marker::Model;
 /// The room for a line at first; a longer line takes more.
 const LINE_ROOM: usize = 4096;
 
-/// Writes OPL files, and is seen as the line that it put last. It keeps the room of the longest line
-/// so far.
+/// Writes OPL files, and is seen as the line that it put last. It keeps the room of the longest
+/// line so far.
 #[derive(Drop)]
 pub struct OplWriter {
     line: Bytes,
@@ -50,7 +50,7 @@ impl OplWriter {
         ensures ok { OnOk result
             (K.taken sink.new ≡ append_known (K.taken sink.old) (line_text item.now)) }
         ensures err { OnErr result
-            (TookPrefix (line_text item.now) (K.taken sink.old) (K.taken sink.new)) }
+            (TakesPrefix (line_text item.now) (K.taken sink.old) (K.taken sink.new)) }
 
         // What it took since it had taken `first`.
         ensures all { OnOk result ((first : Option (List ℕ)) (items : List ItemValue) →

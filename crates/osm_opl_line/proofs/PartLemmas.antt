@@ -1,13 +1,11 @@
 -- Parts that are cut at a byte.
-use Rattle.std.proofs.Common.{◌≡◌, ◌<◌, ◌+◌, ◌-◌, ◌∷◌, ◌++◌, [], ℕ, Bool, true, false, List, length, take, drop, get_or, None, Some, arith, refl, ap, sym, ◌∙◌, nat_lt}
-use Rattle.std.specs.Prelude.{◌==◌, if◌then◌else◌}
-use Rattle.std.specs.List.{position, position_or_len, before_first, after_first, list_any, slice_split}
+use Rattle.std.proofs.Common.{◌≡◌, ◌<◌, ◌+◌, ◌-◌, ℕ, Bool, true, false, List, length, take, drop, get_or, None, Some, arith, sym, nat_lt}
+use Rattle.std.specs.List.{position, position_or_len, before_first, after_first, list_any}
 use Rattle.std.specs.Str.{IsUtf8}
 use Rattle.std.proofs.lemmas.Bool.{ltb-true, ltb-false}
 use Rattle.std.proofs.lemmas.List.{take_rest}
 use Rattle.std.proofs.lemmas.List.Elements.{All-from_get_or}
 use Rattle.std.proofs.lemmas.List.Folds.{list_any_at, list_any_none}
-use Rattle.std.proofs.lemmas.List.Splits.{length-slice_split, join_with_byte-slice_split}
 use Rattle.std.proofs.lemmas.List.Sums.{fails_before_first, passes_at_first, split_at_first}
 use Rattle.osm_text.proofs.KeptLemmas.{kept_some, kept_none}
 use Rattle.osm_text.proofs.SplitLemmas.{IsUtf8-around}

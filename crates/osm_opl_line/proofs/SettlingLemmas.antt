@@ -13,6 +13,7 @@ use Rattle.osm_entity.specs.declared.verdict.Cause.TheVariants.{LineTooLong}
 use Rattle.osm_entity.specs.declared.verdict.Spot.{Spot}
 use Rattle.osm_opl_line.specs.Line.{LineValue, Skipped, Good, Bad, opl_line, longest_line}
 use Rattle.osm_opl_line.specs.Reading.{opl_reading, read_lines, lines_of, before}
+use Rattle.osm_opl_line.proofs.CuttingLemmas.{opl_line-long}
 use Rattle.osm_opl_line.proofs.PrefixLemmas.{ArePieces, are_pieces}
 
 -- a reading ends at a bad line
@@ -57,21 +58,10 @@ settled-lines flow clean any (line ∷ finished) xs ys last number bad =
     (read_lines flow any (number + 1) (finished ++ ys)) bad
     (settled-lines flow clean any finished xs ys last (number + 1))
 
--- a choice that is known
-if-true : {T : Type 0} (b : Bool) (x y : T) → b ≡ true → (if b then x else y) ≡ x
-if-true true x y is = refl
-if-true false x y is = absurd (let no : false ≡ true = is in cc)
-
 -- one of two is enough
 or-true : (b c : Bool) → c ≡ true → (b || c) ≡ true
 or-true true c is = refl
 or-true false c is = is
-
--- a line that is too long is bad, whatever it says
-opl_line-too_long : (flow : Flow) (line : List ℕ) → longest_line < length line → opl_line flow line ≡ Bad LineTooLong
-unfolding opl_line
-opl_line-too_long flow line long =
-    if-true (nat_lt longest_line (length line)) (Bad LineTooLong) _ (lt-ltb longest_line (length line) long)
 
 -- pieces of which the first is too long begin with it as a line
 lines_of-long : (clean : Bool) (line : List ℕ) (parts : List (List ℕ)) → longest_line < length line →
@@ -93,7 +83,7 @@ read_lines-long flow clean line parts number long =
       read_lines flow clean (number + 1) first.0,
       ap (read_lines flow clean number) first.1
           ∙ ap (λ value. before number value (read_lines flow clean (number + 1) first.0))
-          (opl_line-too_long flow line long),
+          (opl_line-long flow line long),
     )
 
 -- an unfinished line of a file that was cut off is bad only where it is too long, and then it stays so
@@ -109,7 +99,7 @@ settled-last flow any true last ahead others number size bad =
     let long : longest_line < length last = ltb-true longest_line (length last) size in
     let longer : longest_line < length (last ++ ahead) = omega (arith, long, length-append last ahead) in
     (read_lines-long flow any (last ++ ahead) others number longer).1
-    ∙ sym (ap (λ value. before number value (read_lines flow false (number + 1) [])) (opl_line-too_long flow last long))
+    ∙ sym (ap (λ value. before number value (read_lines flow false (number + 1) [])) (opl_line-long flow last long))
 
 -- what comes after a bad line changes nothing
 pub opl_reading-settled : (flow : Flow) (bytes more : List ℕ) (any : Bool) (cause : Cause) (spot : Spot) →
@@ -194,14 +184,15 @@ unfinished-gives_none : (flow : Flow) (long : Bool) (last : List ℕ) (number : 
 unfinished-gives_none flow false last number size = refl
 unfinished-gives_none flow true last number size =
     ap (λ value. (before number value (read_lines flow false (number + 1) [])).items)
-    (opl_line-too_long flow last (ltb-true longest_line (length last) size))
+    (opl_line-long flow last (ltb-true longest_line (length last) size))
 
 -- a reading of lines that were cut off is never done
 cut-isnt_done : (flow : Flow) (lines : List (List ℕ)) (number : ℕ) →
     end_read (read_lines flow false number lines).ending ≡ Done → ⊥
 cut-isnt_done flow [] number done = let no : Broken ≡ Done = done in cc
 cut-isnt_done flow (line ∷ lines) number done =
-    by_value (opl_line flow line) (read_lines flow false (number + 1) lines) (cut-isnt_done flow lines (number + 1)) done
+    by_value (opl_line flow line) (read_lines flow false (number + 1) lines)
+    (cut-isnt_done flow lines (number + 1)) done
   where
     by_value : (value : LineValue) (rest : Reading) → (end_read rest.ending ≡ Done → ⊥) →
         end_read (before number value rest).ending ≡ Done → ⊥
@@ -226,10 +217,11 @@ opl_reading-prefix flow bytes more any =
     ))
     1 in
     record {
-      rest = begun.0;
-      front =
-          ap (λ lines. (read_lines flow any 1 lines).items) ys
-          ∙ begun.1
-          ∙ ap (λ lines. (read_lines flow false 1 lines).items ++ begun.0) (sym xs);
+      items = record {
+        rest = begun.0;
+        joined = ap (λ lines. (read_lines flow any 1 lines).items) ys
+            ∙ begun.1
+            ∙ ap (λ lines. (read_lines flow false 1 lines).items ++ begun.0) (sym xs);
+      };
       done = λ done. absurd (cut-isnt_done flow (lines_of false (slice_split (λ b. b == 10) bytes)) 1 done);
     }

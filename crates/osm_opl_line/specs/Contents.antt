@@ -1,6 +1,6 @@
 -- What the content of a field says: a value, or a cause why it is bad.
 -- Here a content is cut at once at its commas; the code goes from one part to the next.
-use Rattle.std.specs.Prelude.{ℕ, ℤ, pos, negsuc, nat_abs, ◌*◌, ◌^◌, List, [], ◌∷◌, length, Bool, true, false, ◌&&◌, ◌==◌, nat_lt, nat_le, if◌then◌else◌, Option, Some, None, Result, Ok, Err}
+use Rattle.std.specs.Prelude.{ℕ, ℤ, nat_abs, ◌*◌, List, [], ◌∷◌, length, Bool, true, false, ◌&&◌, ◌==◌, nat_lt, nat_le, if◌then◌else◌, Option, Some, None, Result, Ok, Err}
 use Rattle.std.specs.List.{slice_split, position_or_len, before_first, after_first, list_any}
 use Rattle.std.specs.Option.{option_map, option_and_then, ok_or}
 use Rattle.osm_entity.specs.Ascii.{comma, equals_sign, at_sign, letter_n, letter_w, letter_r, capital_d, capital_v}
@@ -27,7 +27,10 @@ changeset_in content = ok_or (option_map counted (whole content)) BadNumber
 
 -- whether an entity is deleted: V says that it is visible, and D that it is deleted
 abbrev pub deleted_in : List ℕ → Result Bool Cause
-deleted_in (letter ∷ []) = if letter == capital_v then Ok false else if letter == capital_d then Ok true else Err BadField
+deleted_in (letter ∷ []) =
+    if letter == capital_v then Ok false
+    else if letter == capital_d then Ok true
+    else Err BadField
 deleted_in content = Err BadField
 
 -- a time, or 0 where nothing is said
@@ -75,14 +78,14 @@ tag_of (Ok key) (Ok value) = Ok (record { key = key; value = value })
 abbrev pub is_equals : ℕ → Bool
 is_equals b = b == equals_sign
 
--- the place of the first = of a tag
-abbrev pub equals_place : List ℕ → ℕ
-equals_place part = position_or_len is_equals part
+-- the position of the first = of a tag, and its length where it has none
+abbrev pub position_of_equals : List ℕ → ℕ
+position_of_equals part = position_or_len is_equals part
 
 -- a tag is cut at its first =, and its key isn't empty
 abbrev pub tag_in : List ℕ → Result Tag Cause
 tag_in part =
-    if nat_lt 0 (equals_place part) && nat_lt (equals_place part) (length part)
+    if nat_lt 0 (position_of_equals part) && nat_lt (position_of_equals part) (length part)
     then tag_of (text_in (before_first is_equals part)) (text_in (after_first is_equals part))
     else Err BadField
 

@@ -1,6 +1,6 @@
 -- The bytes of an OPL file: one line for each item, all of one form.
 -- Here a line is one formula of its item; the code appends field after field.
-use Rattle.std.specs.Prelude.{ℕ, ℤ, zero, suc, List, [], ◌∷◌, ◌++◌, ◌≡◌, map, Some, None, codes, decimal}
+use Rattle.std.specs.Prelude.{ℕ, ℤ, zero, suc, List, [], ◌∷◌, ◌++◌, map, Some, None, codes, decimal}
 use Rattle.std.specs.Fmt.{signed_decimal}
 use Rattle.std.specs.List.{flat_map, join_with_byte}
 use Rattle.osm_entity.specs.Ascii.{comma, equals_sign, at_sign, letter_n, letter_w, letter_r}
@@ -75,8 +75,3 @@ line_text item =
 -- the file of a stream: the lines of its items, whatever its end
 abbrev pub opl_text : Stream → List ℕ
 opl_text s = flat_map line_text s.items
-
--- a list of bytes begins with another
-pub record BeginsWith (first bytes : List ℕ) : Type 0 where
-  pub rest : List ℕ
-  pub joined : bytes ≡ first ++ rest

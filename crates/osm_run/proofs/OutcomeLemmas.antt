@@ -14,6 +14,7 @@ use Rattle.osm_host.specs.Contents.{Files, IsContent, IsEmptyWhereTold, set_file
 use Rattle.osm_host.specs.Counts.{Counts, SameCounts, Adds, KeepCounts, GaveOnly}
 use Rattle.osm_host.specs.Moments.{Moment}
 use Rattle.osm_host.specs.Names.{KnownByCall}
+use Rattle.osm_host.specs.Pulls.{SourceValue}
 use Rattle.osm_host.specs.declared.outside.HostError.{HostError}
 use Rattle.osm_host.specs.declared.outside.HostError.TheVariants.{Failed, Memory as HostMemory}
 use Rattle.osm_host.specs.declared.outside.Op.{Op}
@@ -68,35 +69,33 @@ not_changed true is = is
 not_changed false is = refl
 
 -- what the calls of a copy answered once both files were opened
-pub record Opened {S K T A B : Type 0} (rest : S → Option (List ℕ)) (given faults : S → ℕ) (s0 s1 : S)
-    (taken : K → Option (List ℕ)) (put_faults : K → ℕ) (k0 k1 : K) (a b : List ℕ) (before after : Moment)
+pub record Opened {K T A B : Type 0} (s0 s1 : SourceValue) (taken : K → Option (List ℕ)) (faults : K → ℕ) (k0 k1 : K) (a b : List ℕ) (before after : Moment)
     (f2 f3 : Option Files) (c2 c3 : Counts) (g2 g3 : List ℕ → ℕ) (n1 n2 : List (List ℕ)) (opened_a : A) (opened_b : B)
     (kept : Result T HostError) : Type 0 where
-  pub content : IsContent before.files a (rest s0)
-  pub fresh : faults s0 ≡ 0
-  pub unfailed : put_faults k0 ≡ 0
+  pub content : IsContent before.files a s0.rest
+  pub fresh : s0.faults ≡ 0
+  pub unfailed : faults k0 ≡ 0
   pub empty : IsEmptyWhereTold before.files (taken k0)
   pub made : f2 ≡ set_file b [] before.files
   pub closed : f3 ≡ f2
   pub keeps : KeepsFile kept b (taken k1) f3 after.files
   pub counts : SameCounts before.count c2
-  pub pulls : Adds Pull a (faults s1) c2 c3
-  pub puts : KeepCounts b (put_faults k1) c3 after.count kept
+  pub pulls : Adds Pull a s1.faults c2 c3
+  pub puts : KeepCounts b (faults k1) c3 after.count kept
   pub gave : (n : List ℕ) → g2 n ≡ before.gave n
-  pub gives : GaveOnly a (given s1) g2 g3
+  pub gives : GaveOnly a s1.given g2 g3
   pub gave_kept : (n : List ℕ) → after.gave n ≡ g3 n
   pub known_a : KnownByCall a before.known n1 (Ok opened_a)
   pub known_b : KnownByCall b n1 n2 (Ok opened_b)
   pub known : after.known ≡ n2
 
-module _ {S K T A B : Type 0} (rest : S → Option (List ℕ)) (given faults : S → ℕ) (s0 s1 : S)
-    (taken : K → Option (List ℕ)) (put_faults : K → ℕ) (k0 k1 : K) (a b : List ℕ) (before after : Moment)
+module _ {K T A B : Type 0} (s0 s1 : SourceValue) (taken : K → Option (List ℕ)) (faults : K → ℕ) (k0 k1 : K) (a b : List ℕ) (before after : Moment)
     (f2 f3 : Option Files) (c2 c3 : Counts) (g2 g3 : List ℕ → ℕ) (n1 n2 : List (List ℕ)) (opened_a : A) (opened_b : B)
-    (kept : Result T HostError) (status : Status) (h : Opened rest given faults s0 s1 taken put_faults k0 k1 a b before
+    (kept : Result T HostError) (status : Status) (h : Opened s0 s1 taken faults k0 k1 a b before
     after f2 f3 c2 c3 g2 g3 n1 n2 opened_a opened_b kept) where
   -- the course of a copy whose files were opened
-  opened_course : (count : ℕ) (bytes : List ℕ) (clean pull put : Bool) → Pulled rest given s0 s1 count bytes →
-      (clean ≡ true → IsAtEnd (rest s1)) → CountsBy pull 0 (faults s1) → CountsBy put 0 (put_faults k1) →
+  opened_course : (count : ℕ) (bytes : List ℕ) (clean pull put : Bool) → Pulled s0 s1 count bytes →
+      (clean ≡ true → IsAtEnd s1.rest) → CountsBy pull 0 s1.faults → CountsBy put 0 (faults k1) →
       IsCourse (copy_command a b).plan (copy_course (both_files a b) bytes clean
       (failed_by pull put (has_failed kept))) before after
   opened_course count bytes clean pull put pulled ended pulls puts =
@@ -104,19 +103,19 @@ module _ {S K T A B : Type 0} (rest : S → Option (List ℕ)) (given faults : S
       record {
         order = ([], refl);
         gives = (
-          gives_file before.files a c (rest s0) (rest s1) h.content pulled.told ended,
+          gives_file before.files a c s0.rest s1.rest h.content pulled.told ended,
           (sink_gives before.files c b, tt),
         );
-        counts = counts_after a b bytes clean pull put before.count c2 c3 after.count (faults s1) (put_faults k1) kept
+        counts = counts_after a b bytes clean pull put before.count c2 c3 after.count s1.faults (faults k1) kept
             h.counts pulls h.pulls puts h.puts;
-        gave = gave_after a bytes before.gave g2 g3 after.gave (given s1) h.gave pulled.gave h.gives h.gave_kept;
+        gave = gave_after a bytes before.gave g2 g3 after.gave s1.given h.gave pulled.gave h.gives h.gave_kept;
         known = subst (λ ks. SameNames ks (before.known ++ a ∷ b ∷ [])) (sym h.known)
             (same_names-then a b before.known n1 n2 (known_by_open a before.known n1 (Ok opened_a) h.known_a h.known_a.own)
             (known_by_open b n1 n2 (Ok opened_b) h.known_b h.known_b.own));
       }
 
   -- the tasks ran, and the keep was not out of memory
-  tasks_ran : (count : ℕ) (ran : RanValue) → TasksRan rest given faults s0 s1 taken put_faults k0 k1 count ran →
+  tasks_ran : (count : ℕ) (ran : RanValue) → TasksRan s0 s1 taken faults k0 k1 count ran →
       (kept ≡ Err HostMemory → ⊥) → status.fault ≡ fault_by (Ok ran) kept →
       status.ends ≡ entry_of count (Ok ran) ∷ [] → IsRun (copy_command a b) before after status
   tasks_ran count ran tasks no_memory fault ends =
@@ -135,8 +134,8 @@ module _ {S K T A B : Type 0} (rest : S → Option (List ℕ)) (given faults : S
       record {
         course = c;
         is_course = opened_course count bytes ran.clean pull put tasks.read.pulled tasks.read.ended
-            (subst (λ n. CountsBy pull n (faults s1)) h.fresh tasks.read.pulls)
-            (subst (λ n. CountsBy put n (put_faults k1)) h.unfailed tasks.puts);
+            (subst (λ n. CountsBy pull n s1.faults) h.fresh tasks.read.pulls)
+            (subst (λ n. CountsBy put n (faults k1)) h.unfailed tasks.puts);
         how_far = Ran (record {
           opened = refl;
           fine = refl;
@@ -173,8 +172,8 @@ module _ {S K T A B : Type 0} (rest : S → Option (List ℕ)) (given faults : S
       }
 
   -- out of memory after both files were opened
-  memory_after : (count : ℕ) (bytes : List ℕ) (clean pull put : Bool) → Pulled rest given s0 s1 count bytes →
-      (clean ≡ true → IsAtEnd (rest s1)) → CountsBy pull 0 (faults s1) → CountsBy put 0 (put_faults k1) →
+  memory_after : (count : ℕ) (bytes : List ℕ) (clean pull put : Bool) → Pulled s0 s1 count bytes →
+      (clean ≡ true → IsAtEnd s1.rest) → CountsBy pull 0 s1.faults → CountsBy put 0 (faults k1) →
       status.fault ≡ Memory → status.ends ≡ record { task = 0; given = count; clean = clean } ∷ [] →
       IsRun (copy_command a b) before after status
   memory_after count bytes clean pull put pulled ended pulls puts fault ends =
@@ -193,15 +192,15 @@ module _ {S K T A B : Type 0} (rest : S → Option (List ℕ)) (given faults : S
       }
 
   outcome_by : (count : ℕ) (ran : Result RanValue NoMemory) (answer : Result T HostError) → kept ≡ answer →
-      IfOk ran (TasksRan rest given faults s0 s1 taken put_faults k0 k1 count) →
-      OnErr ran (PulledSome rest given s0 s1 count) → status.fault ≡ fault_by ran answer →
+      IfOk ran (TasksRan s0 s1 taken faults k0 k1 count) →
+      OnErr ran (PulledSome s0 s1 count) → status.fault ≡ fault_by ran answer →
       status.ends ≡ entry_of count ran ∷ [] → IsRun (copy_command a b) before after status
   outcome_by count (Err none) answer same tasks (bytes, pulled) fault ends =
-      memory_after count bytes false (are_any (faults s1)) (are_any (put_faults k1)) pulled
-      (λ e. absurd (let no : false ≡ true = e in cc)) (any_faults (faults s1)) (any_faults (put_faults k1)) fault ends
+      memory_after count bytes false (are_any s1.faults) (are_any (faults k1)) pulled
+      (λ e. absurd (let no : false ≡ true = e in cc)) (any_faults s1.faults) (any_faults (faults k1)) fault ends
   outcome_by count (Ok ran) (Err HostMemory) same tasks some fault ends =
-      memory_after count tasks.read.bytes ran.clean (are_any (faults s1)) (are_any (put_faults k1)) tasks.read.pulled
-      tasks.read.ended (any_faults (faults s1)) (any_faults (put_faults k1)) fault ends
+      memory_after count tasks.read.bytes ran.clean (are_any s1.faults) (are_any (faults k1)) tasks.read.pulled
+      tasks.read.ended (any_faults s1.faults) (any_faults (faults k1)) fault ends
   outcome_by count (Ok ran) (Ok x) same tasks some fault ends =
       tasks_ran count ran tasks (λ e. let no : Ok x ≡ Err HostMemory = sym same ∙ e in cc)
       (fault ∙ ap (fault_by (Ok ran)) (sym same)) ends
@@ -211,7 +210,7 @@ module _ {S K T A B : Type 0} (rest : S → Option (List ℕ)) (given faults : S
 
   -- the outcome of a copy whose files were opened
   pub opened_outcome : (count : ℕ) (ran : Result RanValue NoMemory) →
-      IfOk ran (TasksRan rest given faults s0 s1 taken put_faults k0 k1 count) →
-      OnErr ran (PulledSome rest given s0 s1 count) → status.fault ≡ fault_by ran kept →
+      IfOk ran (TasksRan s0 s1 taken faults k0 k1 count) →
+      OnErr ran (PulledSome s0 s1 count) → status.fault ≡ fault_by ran kept →
       status.ends ≡ entry_of count ran ∷ [] → IsRun (copy_command a b) before after status
   opened_outcome count ran tasks some fault ends = outcome_by count ran kept refl tasks some fault ends

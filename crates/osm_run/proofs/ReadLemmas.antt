@@ -11,11 +11,13 @@ use Rattle.osm_entity.specs.declared.kind.Flow.TheVariants.{Entities}
 use Rattle.osm_opl_line.specs.Line.{LineValue, Skipped, Good, Bad, opl_line}
 use Rattle.osm_entity.specs.Readings.{Ending, Whole, Cut, Bad as BadAt, Reading, ending_of, verdict_read}
 use Rattle.osm_opl_line.specs.Reading.{before, lines_of, read_lines, opl_reading}
-use Rattle.osm_opl.specs.Pulling.{FaultsOfPull}
-use Rattle.osm_opl.specs.Reader.{ReaderValue, is_ended}
-use Rattle.osm_opl.specs.Standing.{FitsFeed, Stands, reader_reading}
-use Rattle.osm_opl.specs.declared.feed.Feed.{Feed}
-use Rattle.osm_opl.specs.declared.feed.Feed.TheVariants.{Open, Ended, Failed, TooLong}
+use Rattle.osm_host.specs.Feeds.{FaultsOfPull, FitsFeed, reached_end}
+use Rattle.osm_host.specs.Pulls.{SourceValue}
+use Rattle.osm_opl.specs.Reader.{ReaderValue}
+use Rattle.osm_opl.specs.Standing.{Stands, reader_reading}
+use Rattle.osm_host.specs.declared.feed.Feed.{Feed}
+use Rattle.osm_host.specs.declared.feed.Feed.TheVariants.{Open, Ended, Failed, TooLong}
+use Rattle.osm_host.proofs.FeedLemmas.{reached_end-true}
 use Rattle.osm_run.specs.Course.{source_limit}
 use Rattle.osm_run.specs.OnHost.{CountsBy}
 use Rattle.osm_run.specs.Reading.{IsPulled, IsReadOut, ItemsRead, SourceIsRead, reading_of}
@@ -63,21 +65,14 @@ pulls_counted Failed before now rises = rises
 pulls_counted TooLong before now same = same
 
 -- a source that ended didn't fail
-ended_whole : (feed : Feed) → is_ended feed ≡ true → has_failed feed ≡ false
+ended_whole : (feed : Feed) → reached_end feed ≡ true → has_failed feed ≡ false
 ended_whole Open ended = refl
 ended_whole Ended ended = refl
 ended_whole Failed ended = cc
 ended_whole TooLong ended = refl
 
--- a source that ended is said to have ended
-ended_is : (feed : Feed) → is_ended feed ≡ true → feed ≡ Ended
-ended_is Open ended = cc
-ended_is Ended ended = refl
-ended_is Failed ended = cc
-ended_is TooLong ended = cc
-
 -- a source that ended gave no more than the limit
-ended_within : (feed : Feed) (limit count : ℕ) → is_ended feed ≡ true → FitsFeed feed limit count → count ≤ limit
+ended_within : (feed : Feed) (limit count : ℕ) → reached_end feed ≡ true → FitsFeed feed limit count → count ≤ limit
 ended_within Open limit count ended fits = cc
 ended_within Ended limit count ended fits = fits
 ended_within Failed limit count ended fits = cc
@@ -85,7 +80,7 @@ ended_within TooLong limit count ended fits = cc
 
 -- a reading that was cut off within the limit was cut off by a pull that failed
 cut_failed : (feed : Feed) (limit count : ℕ) → FitsFeed feed limit count → feed ≢ Open →
-    (is_ended feed ≡ true → ⊥) → count ≤ limit → has_failed feed ≡ true
+    (reached_end feed ≡ true → ⊥) → count ≤ limit → has_failed feed ≡ true
 cut_failed Open limit count fits closed unended within = absurd (closed refl)
 cut_failed Ended limit count fits closed unended within = absurd (unended refl)
 cut_failed Failed limit count fits closed unended within = refl
@@ -109,29 +104,29 @@ cut_unended bytes came cut ended =
     not_cut Entities (take source_limit bytes) (subst (λ c. (reading_of bytes c).ending ≡ Cut) ended cut)
 
 -- a reader that was pulled to a verdict has read its source
-pub is_read : {S : Type 0} (rest : S → Option (List ℕ)) (given faults : S → ℕ) (before now : S) (count : ℕ)
-    (reader : ReaderValue) (items : List ItemValue) → IsReadOut rest given faults before now count reader items →
-    ItemsRead rest given faults before now count (is_ended reader.feed) reader.verdict items
-is_read rest given faults before now count reader items out =
+pub is_read : (before now : SourceValue) (count : ℕ) (reader : ReaderValue) (items : List ItemValue) →
+    IsReadOut before now count reader items →
+    ItemsRead before now count (reached_end reader.feed) reader.verdict items
+is_read before now count reader items out =
     let p = out.pulled in
     let over = p.stands.over out.over in
-    let same = reading_same reader p.bytes (is_ended reader.feed) p.flow p.limit in
+    let same = reading_same reader p.bytes (reached_end reader.feed) p.flow p.limit in
     let size : length p.bytes ≡ count = sym p.pulled.counted in
-    let reading : Reading = reading_of p.bytes (is_ended reader.feed) in
+    let reading : Reading = reading_of p.bytes (reached_end reader.feed) in
     record {
       reading = reading;
       read = record {
         bytes = p.bytes;
         pull_failed = has_failed reader.feed;
         pulled = p.pulled;
-        ended = λ ended. p.ended (ended_is reader.feed ended);
-        pulls = pulls_counted reader.feed (faults before) (faults now) p.pulls;
+        ended = λ ended. p.ended (reached_end-true reader.feed ended);
+        pulls = pulls_counted reader.feed before.faults now.faults p.pulls;
         whole = λ ended. ended_whole reader.feed ended;
         within = λ ended. rw (size, p.limit) at
             (ended_within reader.feed reader.limit (length p.bytes) ended p.stands.fits);
         cut = λ cut within. cut_failed reader.feed source_limit count (rw (size, p.limit) at p.stands.fits)
             (over.stopped (ap (λ (r : Reading). r.ending) same ∙ cut))
-            (cut_unended p.bytes (is_ended reader.feed) cut) within;
+            (cut_unended p.bytes (reached_end reader.feed) cut) within;
         past = λ past. past_unfailed reader.feed source_limit count (rw (size, p.limit) at p.stands.fits)
             past;
         is_reading = refl;

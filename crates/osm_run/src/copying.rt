@@ -1,6 +1,7 @@
 //! Copies the items of one file to another.
 ghost use Rattle.std.specs.Prelude.{◌≡◌, ◌≢◌, IfOk, OnErr};
 ghost use Rattle.osm_host.specs.Moments.{moment};
+ghost use Rattle.osm_host.specs.Pulls.{source_value};
 ghost use Rattle.osm_run.specs.Copying.{copy_command};
 ghost use Rattle.osm_run.specs.Outcome.{IsRun};
 ghost use Rattle.osm_run.specs.Pulling.{PulledSome};
@@ -38,10 +39,13 @@ fn copy_items<S: Source, K: Sink>(
     requires zero { given.old ≡ 0 }
     ensures source_name { S.name source.new ≡ S.name source.old }
     ensures sink_name { K.name sink.new ≡ K.name sink.old }
-    ensures ran { IfOk result
-        (TasksRan S.rest S.given S.faults source.old source.new
+    ensures ran { IfOk result (TasksRan
+        (source_value S.rest S.given S.faults source.old)
+        (source_value S.rest S.given S.faults source.new)
         K.taken K.faults sink.old sink.new given.new) }
-    ensures err { OnErr result (PulledSome S.rest S.given source.old source.new given.new) }
+    ensures err { OnErr result (PulledSome
+        (source_value S.rest S.given S.faults source.old)
+        (source_value S.rest S.given S.faults source.new) given.new) }
 {
     let read = read_source(alloc, source, given)?;
     let put_failed = match put_items(alloc, sink, read.items.as_slice()) {
@@ -103,7 +107,7 @@ fn not_opened(task: u32, refusal: HostError) -> Fault
     }
 }
 
-// The entry of the reader, after its tasks ran or was out of memory.
+// The entry of the reader, after the tasks ran or were out of memory.
 fn source_end(given: u64, ran: Result<Ran, NoMemory>) -> SourceEnd
     ensures { result ≡ entry_of given ran }
 {

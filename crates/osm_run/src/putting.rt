@@ -1,10 +1,7 @@
 //! Puts items into a sink as lines.
 ghost use Rattle.std.specs.Prelude.{◌≡◌, OnOk, OnErr};
-ghost use Rattle.std.specs.Io.KnownBytes.{append_known};
-ghost use Rattle.std.specs.List.{flat_map};
 ghost use Rattle.osm_host.specs.Counts.{CountsRefusal};
-ghost use Rattle.osm_opl.specs.Putting.{TookFront};
-ghost use Rattle.osm_opl_line.specs.Writing.{line_text};
+ghost use Rattle.osm_opl.specs.Written.{TookItems, TookSome};
 
 use osm_entity::{Flow, Item};
 use osm_host::{HostError, Sink};
@@ -14,10 +11,8 @@ use std::alloc::Global;
 /// Puts the line of each item, a line in one put, up to the first put that is refused.
 pub fn put_items<K: Sink>(alloc: Global, sink: &mut K, items: &[Item]) -> Result<(), HostError>
     ensures name { K.name sink.new ≡ K.name sink.old }
-    ensures ok { OnOk result
-        (K.taken sink.new ≡ append_known (K.taken sink.old) (flat_map line_text items.now)) }
-    ensures err { OnErr result
-        (TookFront (flat_map line_text items.now) (K.taken sink.old) (K.taken sink.new)) }
+    ensures ok { OnOk result (TookItems (K.taken sink.old) (K.taken sink.new) items.now) }
+    ensures err { OnErr result (TookSome (K.taken sink.old) (K.taken sink.new) items.now) }
     ensures faults { CountsRefusal result (K.faults sink.old) (K.faults sink.new) }
 {
     let mut writer = OplWriter::new(alloc, Flow::Entities)?;

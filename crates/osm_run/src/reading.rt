@@ -1,7 +1,8 @@
 //! Reads the items of a source, pull by pull.
 ghost use Rattle.std.specs.Prelude.{◌≡◌, ◌↔◌, IfOk, IsTrue, OnErr, OnOk};
 ghost use Rattle.osm_entity.specs.declared.verdict.Verdict.TheVariants.{Running};
-ghost use Rattle.osm_opl.specs.Reader.{CanPull, SameSource};
+ghost use Rattle.osm_host.specs.Pulls.{source_value};
+ghost use Rattle.osm_opl.specs.Reader.{SameSource, WantsPull};
 ghost use Rattle.osm_run.specs.Pulling.{PulledSome};
 ghost use Rattle.osm_run.specs.Reading.{GaveMore, IsPulled, IsReadOut, ItemsRead};
 
@@ -33,10 +34,13 @@ pub fn read_source<S: Source>(
     requires fresh { S.given source.old ≡ 0 }
     requires zero { given.old ≡ 0 }
     ensures name { S.name source.new ≡ S.name source.old }
-    ensures read { IfOk result
-        (λ r. ItemsRead S.rest S.given S.faults source.old source.new given.new
-        r.clean r.verdict r.items) }
-    ensures err { OnErr result (PulledSome S.rest S.given source.old source.new given.new) }
+    ensures read { IfOk result (λ r. ItemsRead
+        (source_value S.rest S.given S.faults source.old)
+        (source_value S.rest S.given S.faults source.new)
+        given.new r.clean r.verdict r.items) }
+    ensures err { OnErr result (PulledSome
+        (source_value S.rest S.given S.faults source.old)
+        (source_value S.rest S.given S.faults source.new) given.new) }
 {
     let mut reader = OplReader::new(alloc, Flow::Entities, SOURCE_LIMIT)?;
     let mut items = Items::new(alloc);
@@ -44,7 +48,7 @@ pub fn read_source<S: Source>(
     Ok(SourceRead {
         items,
         verdict: reader.verdict(),
-        clean: reader.has_ended(),
+        clean: reader.reached_end(),
     })
 }
 
@@ -55,13 +59,17 @@ fn pull_items<S: Source>(
     items: &mut Items,
     given: &mut u64,
 ) -> Result<(), NoMemory>
-    requires fresh { IsPulled S.rest S.given S.faults source.old source.old given.old
-        reader.old items.old }
-    requires pulls { CanPull reader.old }
+    requires fresh { IsPulled
+        (source_value S.rest S.given S.faults source.old)
+        (source_value S.rest S.given S.faults source.old) given.old reader.old items.old }
+    requires wants { WantsPull reader.old }
     ensures name { S.name source.new ≡ S.name source.old }
-    ensures ok { OnOk result (IsReadOut S.rest S.given S.faults source.old source.new given.new
-        reader.new items.new) }
-    ensures err { OnErr result (PulledSome S.rest S.given source.old source.new given.new) }
+    ensures ok { OnOk result (IsReadOut
+        (source_value S.rest S.given S.faults source.old)
+        (source_value S.rest S.given S.faults source.new) given.new reader.new items.new) }
+    ensures err { OnErr result (PulledSome
+        (source_value S.rest S.given S.faults source.old)
+        (source_value S.rest S.given S.faults source.new) given.new) }
 {
     for _turn in 0..SOURCE_LIMIT + 1 {
         reader.pull(source)?;
@@ -83,7 +91,7 @@ fn is_running(verdict: Verdict) -> bool
 // Takes all items that the reader has.
 fn take_items(reader: &mut OplReader, items: &mut Items) -> Result<(), NoMemory>
     ensures gave { OnOk result (GaveMore reader.old reader.new items.old items.new) }
-    ensures stops { OnOk result (reader.new.verdict ≡ Running → CanPull reader.new) }
+    ensures stops { OnOk result (reader.new.verdict ≡ Running → WantsPull reader.new) }
     ensures same { SameSource reader.old reader.new }
 {
     while let Some(item) = reader.next()? {

@@ -9,6 +9,7 @@ pub mod FractionLemmas
 pub mod KeptLemmas
 pub mod LibraryLemmas
 pub mod NanoLemmas
+pub mod PositionLemmas
 pub mod ReadBackLemmas
 pub mod SplitLemmas
 pub mod TimeLemmas

@@ -134,7 +134,8 @@ nano_size-pointed before after some few places leading back =
     rw place (take-append_seam before (46 ∷ after)) in
     let past : after_first is_point (before ++ 46 ∷ after) ≡ after = rw place (drop-append-add before (46 ∷ after) 1) in
     nano_size-plain (before ++ 46 ∷ after) letter ∙
-    nano_moved-at (before ++ 46 ∷ after) before after first past places (joined-digits before after some few leading back)
+    nano_moved-at (before ++ 46 ∷ after) before after first past places
+    (joined-digits before after some few leading back)
 
 -- a text that begins with a digit after its minus has no other sign
 without_sign-digits : (minus : Bool) (bytes digits rest : List ℕ) → has_minus bytes ≡ minus →

@@ -44,8 +44,8 @@ impl Sink for MemorySink {
 
     ghost faults = { λ k. k.faults };
 
-    /// Takes the piece whole. `Failed` where this put is one that fails: it then took the first half
-    /// of the piece, rounded down. After `Memory` it took nothing.
+    /// Takes the piece whole. `Failed` where this put is one that fails: it then took the first
+    /// half of the piece, rounded down. After `Memory` it took nothing.
     fn put(&mut self, bytes: &[u8]) -> Result<(), HostError>
         ensures name { self.new.name ≡ self.old.name }
         ensures takes { PutTakes result bytes.now (Some self.old.bytes) (Some self.new.bytes) }

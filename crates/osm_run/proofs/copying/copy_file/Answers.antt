@@ -2,6 +2,7 @@ use Rattle.std.proofs.Common.{◌∙◌, ap, sym, subst, refl, [], ◌∷◌, �
 use Rattle.osm_host.specs.Contents.{IsEmptyWhereTold, set_file}
 use Rattle.osm_host.specs.Counts.{Adds, GaveOnly}
 use Rattle.osm_host.specs.Moments.{moment}
+use Rattle.osm_host.specs.Pulls.{source_value}
 use Rattle.osm_host.specs.declared.outside.Op.TheVariants.{Open, Make, Pull}
 use Rattle.osm_run.proofs.CountLemmas.{counts_kept, counts_then_kept, adds_nothing, gave_nothing}
 use Rattle.osm_run.proofs.OpeningLemmas.{at_err, at_ok, source_not_opened, entries_not_held, sink_not_opened}
@@ -75,8 +76,9 @@ returns-in-Err-open_sink-clause-run g c =
 
 pub returns-clause-run : goal.returns-clause-run
 returns-clause-run g c =
-    opened_outcome g.H.In.Source.rest g.H.In.Source.given g.H.In.Source.faults c.in-Ok.source
-    c.copy_items-ran.new.source
+    opened_outcome
+    (source_value g.H.In.Source.rest g.H.In.Source.given g.H.In.Source.faults c.in-Ok.source)
+    (source_value g.H.In.Source.rest g.H.In.Source.given g.H.In.Source.faults c.copy_items-ran.new.source)
     g.H.Out.Sink.taken g.H.Out.Sink.faults c.in-Ok-open_sink.sink c.copy_items-ran.new.sink
     c.args.from.now c.args.to.now
     (moment g.H.Host.files g.H.Host.said g.H.Host.mute g.H.Host.count g.H.Host.gave g.H.Host.known c.args.host.now)
