@@ -37,7 +37,7 @@ module _ (k : Command) (c : Course) (files : Files) where
       length (c.given task) ≤ polygon_limit
   within task cut (ReachedEnd end unfailed small) = small
   within task cut (PassedLimit end unfailed past) = no_bool (c.clean task) cut end
-  within task cut (PullFailed end failed) = no_bool (c.clean task) cut end
+  within task cut (PullFailed end failed small) = no_bool (c.clean task) cut end
   within task cut (WasWrong cause spot end wrong) = no_bool (c.clean task) cut end
 
   -- what was read of a polygon file at which no call failed
@@ -53,7 +53,8 @@ module _ (k : Command) (c : Course) (files : Files) where
       no_bool true refl opens
   polygon_stop task name false false long finish fault more pulls read (ReachedEnd end unfailed small) opens cut area is
       size = no_bool (c.clean task) end cut
-  polygon_stop task name false false long finish fault more pulls read (PullFailed end failed) opens cut area is size =
+  polygon_stop task name false false long finish fault more pulls read (PullFailed end failed small) opens cut area is
+      size =
       no_bool (c.failed Pull task) failed pulls
   polygon_stop task name false false long finish fault more pulls read (WasWrong cause spot end wrong) opens cut area is
       size = absurd (let no : Whole ≡ Wrong cause spot = wrong in cc)
@@ -76,7 +77,7 @@ module _ (k : Command) (c : Course) (files : Files) where
   not_at_rest task rest pulls (ReachedEnd end unfailed small) = no_bool (c.clean task) end rest.clean
   not_at_rest task rest pulls (PassedLimit end unfailed past) =
       omega (arith, past, ap (λ bytes. length bytes) rest.given)
-  not_at_rest task rest pulls (PullFailed end failed) = no_bool (c.failed Pull task) failed pulls
+  not_at_rest task rest pulls (PullFailed end failed small) = no_bool (c.failed Pull task) failed pulls
   not_at_rest task rest pulls (WasWrong cause spot end wrong) = let no : Whole ≡ Wrong cause spot = wrong in cc
 
   polygon_gives : (task : ℕ) (name : List ℕ) (fault : Fault) (more : List Fault) → IsUnfailed c (task, Polygon name) →

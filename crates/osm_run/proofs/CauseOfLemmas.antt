@@ -55,7 +55,7 @@ module _ (k : Command) (c : Course) (before after : Moment) (ends : List SourceE
   pull_failed task limit finish right cut short (ReachedEnd clean unfailed within) = no_bool (c.clean task) clean cut
   pull_failed task limit finish right cut short (PassedLimit clean unfailed past) =
       absurd (omega (arith, past, ltb-false limit (length (c.given task)) short))
-  pull_failed task limit finish right cut short (PullFailed clean failed) = failed
+  pull_failed task limit finish right cut short (PullFailed clean failed small) = failed
   pull_failed task limit finish right cut short (WasWrong cause spot clean wrong) =
       absurd (let no : Input task cause spot ∷ [] ≡ [] = sym (ap (wrong_fault task) wrong) ∙ right in cc)
 

@@ -50,7 +50,7 @@ pub ended_read : (c : Course) (task limit : ℕ) (finish : Finish) → HowRead c
     c.failed Pull task ≡ false
 ended_read c task limit finish (ReachedEnd clean unfailed within) ended = unfailed
 ended_read c task limit finish (PassedLimit clean unfailed past) ended = unfailed
-ended_read c task limit finish (PullFailed clean failed) ended = no_bool (c.clean task) ended clean
+ended_read c task limit finish (PullFailed clean failed small) ended = no_bool (c.clean task) ended clean
 ended_read c task limit finish (WasWrong cause spot clean wrong) ended = no_bool (c.clean task) ended clean
 
 -- the parts of the faults of opening a polygon file

@@ -83,7 +83,7 @@ read_there from to c files (inr read) how = read
 read_there from to c files (inl rest) (ReachedEnd end unfailed small) = no_bool (c.clean 0) end rest.clean
 read_there from to c files (inl rest) (PassedLimit end unfailed past) =
     absurd (omega (arith, past, ap (λ bytes. length bytes) rest.given))
-read_there from to c files (inl rest) (PullFailed end failed) = no_bool (c.failed Pull 0) failed rest.pulled
+read_there from to c files (inl rest) (PullFailed end failed small) = no_bool (c.failed Pull 0) failed rest.pulled
 read_there from to c files (inl rest) (WasWrong cause spot end wrong) =
     absurd (none_wrong (c.given 0) (c.clean 0) rest.given rest.clean cause spot wrong)
 
@@ -101,7 +101,7 @@ pub ended_within : (c : Course) (finish : Finish) → HowRead c 0 source_limit f
     length (c.given 0) ≤ source_limit
 ended_within c finish (ReachedEnd end unfailed small) ended = small
 ended_within c finish (PassedLimit end unfailed past) ended = no_bool (c.clean 0) ended end
-ended_within c finish (PullFailed end failed) ended = no_bool (c.clean 0) ended end
+ended_within c finish (PullFailed end failed small) ended = no_bool (c.clean 0) ended end
 ended_within c finish (WasWrong cause spot end wrong) ended = no_bool (c.clean 0) ended end
 
 pub finish_whole : (ending : Ending) → finish_read ending ≡ FinishWhole → ending ≡ Whole

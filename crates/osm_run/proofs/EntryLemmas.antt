@@ -35,7 +35,7 @@ module _ (k : Command) (c : Course) (before after : Moment) (status : Status) wh
   unfolding at
   how_unclean task name counted (ReachedEnd clean unfailed within) cut = no_bool (c.clean task) clean cut
   how_unclean task name counted (PassedLimit clean unfailed past) cut = AtLimit past
-  how_unclean task name counted (PullFailed clean failed) cut =
+  how_unclean task name counted (PullFailed clean failed small) cut =
       AtPull (rose_at k c before after Pull task (Source name) name counted (bytes_eq-self name) refl failed)
   how_unclean task name counted (WasWrong cause spot clean wrong) cut = AtWrong cause spot wrong
 

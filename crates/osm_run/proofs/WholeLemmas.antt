@@ -120,7 +120,7 @@ source_case k c whole task name file read pulled given clean (PassedLimit is_cut
           (lt-ltb source_limit (length (c.given task)) past)
           (lt-ltb source_limit (length (whole.given task)) longer);
     }
-source_case k c whole task name file read pulled given clean (PullFailed is_cut failed) =
+source_case k c whole task name file read pulled given clean (PullFailed is_cut failed small) =
     no_bool (c.failed Pull task) failed pulled
 source_case k c whole task name file read pulled given clean (WasWrong cause spot is_cut wrong) =
     let joined : whole.given task ≡ c.given task ++ read.rest = given ∙ read.joined in
