@@ -144,7 +144,9 @@ fn rows() -> [Row; 28] {
     ]
 }
 
-fn text(alloc: Global, bytes: &[u8]) -> Result<Text, NoMemory> {
+fn text(alloc: Global, bytes: &[u8]) -> Result<Text, NoMemory>
+    ensures { IfOk result (λ t. t ≡ bytes.now) }
+{
     match Text::from_bytes(alloc, bytes) {
         Ok(text) => Ok(text),
         Err(TextError::Memory) | Err(TextError::BadText) => Err(NoMemory),
@@ -165,7 +167,7 @@ fn files_of(alloc: Global, a: Content) -> Result<Files, NoMemory>
 {
     let (part, times) = a;
     let b = FileHeld {
-        name: Text::from_bytes(alloc, b"b").map_err(|_| NoMemory)?,
+        name: text(alloc, b"b")?,
         bytes: Bytes::from_slice(alloc, BEFORE)?,
     };
     let mut files = Files::new(alloc);
@@ -176,7 +178,7 @@ fn files_of(alloc: Global, a: Content) -> Result<Files, NoMemory>
             bytes.append(part)?;
         }
         let a = FileHeld {
-            name: Text::from_bytes(alloc, b"a").map_err(|_| NoMemory)?,
+            name: text(alloc, b"a")?,
             bytes,
         };
         files.push(a)?;
@@ -213,11 +215,12 @@ fn run_on<H: Host>(alloc: Global, words: &[Text], host: &mut H) -> Status {
 
 /// What the host holds as `b`.
 fn held(host: &MemoryHost) -> Option<&[u8]> {
-    host.files()
-        .as_slice()
-        .iter()
-        .find(|file| file.name.as_slice() == b"b".as_slice())
-        .map(|file| file.bytes.as_slice())
+    for file in host.files().as_slice() {
+        if file.name.as_slice() == b"b".as_slice() {
+            return Some(file.bytes.as_slice());
+        }
+    }
+    None
 }
 
 fn check(rt: &(impl Abort + AllocGlobal), row: Row, piece: u32) -> Result<(), Fail>
@@ -231,10 +234,17 @@ fn check(rt: &(impl Abort + AllocGlobal), row: Row, piece: u32) -> Result<(), Fa
     let status = run_on(alloc, words.as_slice(), &mut host);
     assert_eq!(rt; held(&host), Some(b), "{says}");
     assert_eq!(rt; status.fault, fault, "{says}");
-    let task = 0;
-    let entry = end.map(|(given, clean)| SourceEnd { task, given, clean });
-    assert_eq!(rt; status.ends.len(), usize::from(entry.is_some()), "{says}");
-    assert_eq!(rt; status.ends.as_slice().first().copied(), entry, "{says}");
+    let entries = status.ends.as_slice();
+    if let Some((given, clean)) = end {
+        let task = 0;
+        assert_eq!(rt;
+            entries,
+            [SourceEnd { task, given, clean }].as_slice(),
+            "{says}"
+        );
+    } else {
+        assert_eq!(rt; entries.len(), 0, "{says}");
+    }
     assert_eq!(rt; host.said().len(), 0, "{says}");
     Ok(())
 }
