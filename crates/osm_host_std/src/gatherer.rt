@@ -54,8 +54,8 @@ impl<F> Gatherer<F> {
 
 impl<F: Write> Gatherer<F> {
     /// Takes the bytes. Where there is no room for them, it first writes what was gathered; more
-    /// bytes than the whole room has are written at once. At `Err` a write failed, and the file took
-    /// a prefix of what was gathered and of these.
+    /// bytes than the whole room has are written at once. At `Err` a write failed, and the file
+    /// took a prefix of what was gathered and of these.
     #[tactic(auto, using(crate::proofs::WrittenLemmas::prefix_of_more))]
     pub(crate) fn take(&mut self, bytes: &[u8]) -> Result<(), Failed>
         requires sound { write_failed self.old ≡ false }
