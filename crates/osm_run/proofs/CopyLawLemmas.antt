@@ -24,7 +24,7 @@ use Rattle.osm_run.specs.Outcome.{IsRun, IsRefusedOrRun, IsUnchanged}
 use Rattle.osm_run.specs.Causes.{HasCauses}
 use Rattle.osm_run.specs.Codes.{code_of}
 use Rattle.osm_run.specs.Copying.{copy_command, command_of, IsCopyRun, IsNotBuilt}
-use Rattle.osm_run.specs.Headline.{TasksRan, OthersStay, NoneRose, HoldsBytes, HoldsUnlessRose, HoldsPrefixUnlessRose, SameFiles, IsWholeCourse, IsComplete, content}
+use Rattle.osm_run.specs.Headline.{RanItsTasks, OthersStay, NoneRose, HoldsBytes, HoldsUnlessRose, HoldsPrefixUnlessRose, SameFiles, IsWholeCourse, IsComplete, content}
 use Rattle.osm_run.specs.Promises.{IsCopyOf, IsWholeCopy, AreLinesRead, HoldsLinesRead, HoldsPrefixRead, IsCalmCopy}
 use Rattle.osm_run.specs.declared.status.Fault.{Fault}
 use Rattle.osm_run.specs.declared.status.Fault.TheVariants.{Clean, NotBuilt, Input, TooLong, Device, Memory}
@@ -105,17 +105,17 @@ module _ (from to : List ℕ) (before after : Moment) (status : Status)
 
   -- the tasks ran where no file failed to open and memory was there
   ran_case : (far : HowFar (copy_command from to) run_of.course before after status) → (status.fault ≡ Memory → ⊥) →
-      (AfterStop (copy_command from to) run_of.course before after status → ⊥) → TasksRan far
+      (AfterStop (copy_command from to) run_of.course before after status → ⊥) → RanItsTasks far
   ran_case (Stopped stop) memory stopped = absurd (stopped stop)
   ran_case (Ran t) memory stopped = tt
   ran_case (OutOfMemory m) memory stopped = absurd (memory m.fault)
 
-  opened_all : status.code ≢ 6 → ((task : ℕ) → status.fault ≢ Device task Open) → TasksRan run_of.how_far
+  opened_all : status.code ≢ 6 → ((task : ℕ) → status.fault ≢ Device task Open) → RanItsTasks run_of.how_far
   opened_all memory opens = ran_case run_of.how_far (memory_there memory)
       (λ stop. opens stop.last.0 (open_fault from to run_of.course stop.last status.fault stop.fault.0
       (last_of_copy stop) stop.fault.1))
 
-  calm_all : status.code ≢ 6 → NoneRose before after → TasksRan run_of.how_far
+  calm_all : status.code ≢ 6 → NoneRose before after → RanItsTasks run_of.how_far
   calm_all memory calm = ran_case run_of.how_far (memory_there memory)
       (λ stop. no_stop from to run_of.course stop.last status.fault stop.fault.0
       (last_opened (copy_command from to) run_of.course before after status (IsUnfailed run_of.course) stop
@@ -191,7 +191,7 @@ module _ (from to : List ℕ) (before after : Moment) (status : Status)
       (Rose (before.count Keep to) (after.count Keep to) → ⊥) → (e : SourceEnd) × (status.ends ≡ e ∷ [])
       × WhereTold before.files after.files (HoldsLinesRead from to e)
   copy_lines memory opens puts keeps =
-      let ran : TasksRan run_of.how_far = opened_all memory opens in
+      let ran : RanItsTasks run_of.how_far = opened_all memory opens in
       let t : AfterTasks (copy_command from to) run_of.course before after status =
       ran_tasks (copy_command from to) run_of.course before after status run_of.how_far ran in (
         record { task = 0; given = length (run_of.course.given 0); clean = run_of.course.clean 0 },
@@ -208,7 +208,7 @@ module _ (from to : List ℕ) (before after : Moment) (status : Status)
       (Rose (before.count Keep to) (after.count Keep to) → ⊥) → (e : SourceEnd) × (status.ends ≡ e ∷ [])
       × WhereTold before.files after.files (HoldsPrefixRead from to e)
   copy_prefix memory opens keeps =
-      let ran : TasksRan run_of.how_far = opened_all memory opens in
+      let ran : RanItsTasks run_of.how_far = opened_all memory opens in
       let t : AfterTasks (copy_command from to) run_of.course before after status =
       ran_tasks (copy_command from to) run_of.course before after status run_of.how_far ran in (
         record { task = 0; given = length (run_of.course.given 0); clean = run_of.course.clean 0 },
@@ -243,7 +243,7 @@ module _ (from to : List ℕ) (before after : Moment) (status : Status)
   )
 
   -- where no call failed and memory was there, the fault and the file are those of the whole file
-  calm_files : (ran : TasksRan run_of.how_far) → (was now : Files) → before.files ≡ Some was →
+  calm_files : (ran : RanItsTasks run_of.how_far) → (was now : Files) → before.files ≡ Some was →
       ((whole : Course) → IsWholeCourse (copy_command from to) was whole →
       IsComplete (copy_command from to) whole now status) → IsCalmCopy from to status.fault was now
   calm_files ran was now told complete =
@@ -263,7 +263,7 @@ module _ (from to : List ℕ) (before after : Moment) (status : Status)
   pub copy_calm : NoneRose before after → status.code ≢ 6 →
       WhereTold before.files after.files (IsCalmCopy from to status.fault)
   copy_calm calm memory =
-      let ran : TasksRan run_of.how_far = calm_all memory calm in
+      let ran : RanItsTasks run_of.how_far = calm_all memory calm in
       told_by before.files after.files
       (λ was now. (whole : Course) → IsWholeCourse (copy_command from to) was whole →
       IsComplete (copy_command from to) whole now status) (IsCalmCopy from to status.fault)
