@@ -119,7 +119,8 @@ any_faults zero = refl
 any_faults (suc n) = record { later = omega arith; rose = omega arith }
 
 -- where no call of a kind failed at either file of a copy, its count stays
-neither_by : (x y : Bool) (before now : ℕ) → now ≡ before → CountsBy ((x && false) || ((y && false) || false)) before now
+neither_by : (x y : Bool) (before now : ℕ) → now ≡ before →
+    CountsBy ((x && false) || ((y && false) || false)) before now
 neither_by true true before now is = is
 neither_by true false before now is = is
 neither_by false true before now is = is

@@ -68,7 +68,8 @@ module _ (a b : List ℕ) (before after : Moment) (status : Status) (fault : sta
         });
       }
 
-  pub memory_at_none : status.ends ≡ [] → SameNames after.known before.known → IsRun (copy_command a b) before after status
+  pub memory_at_none : status.ends ≡ [] → SameNames after.known before.known →
+      IsRun (copy_command a b) before after status
   memory_at_none ends known =
       memory_before [] (both_files a b) refl tt (λ n. gave n ∙ gave_none (before.gave n))
       (same_names-nil after.known before.known known) (inr (ends, tt))

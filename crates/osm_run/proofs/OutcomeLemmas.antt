@@ -69,9 +69,9 @@ not_changed true is = is
 not_changed false is = refl
 
 -- what the calls of a copy answered once both files were opened
-pub record Opened {K T A B : Type 0} (s0 s1 : SourceValue) (taken : K → Option (List ℕ)) (faults : K → ℕ) (k0 k1 : K) (a b : List ℕ) (before after : Moment)
-    (f2 f3 : Option Files) (c2 c3 : Counts) (g2 g3 : List ℕ → ℕ) (n1 n2 : List (List ℕ)) (opened_a : A) (opened_b : B)
-    (kept : Result T HostError) : Type 0 where
+pub record Opened {K T A B : Type 0} (s0 s1 : SourceValue) (taken : K → Option (List ℕ)) (faults : K → ℕ) (k0 k1 : K)
+    (a b : List ℕ) (before after : Moment) (f2 f3 : Option Files) (c2 c3 : Counts) (g2 g3 : List ℕ → ℕ)
+    (n1 n2 : List (List ℕ)) (opened_a : A) (opened_b : B) (kept : Result T HostError) : Type 0 where
   pub content : IsContent before.files a s0.rest
   pub fresh : s0.faults ≡ 0
   pub unfailed : faults k0 ≡ 0
@@ -89,10 +89,10 @@ pub record Opened {K T A B : Type 0} (s0 s1 : SourceValue) (taken : K → Option
   pub known_b : KnownByCall b n1 n2 (Ok opened_b)
   pub known : after.known ≡ n2
 
-module _ {K T A B : Type 0} (s0 s1 : SourceValue) (taken : K → Option (List ℕ)) (faults : K → ℕ) (k0 k1 : K) (a b : List ℕ) (before after : Moment)
-    (f2 f3 : Option Files) (c2 c3 : Counts) (g2 g3 : List ℕ → ℕ) (n1 n2 : List (List ℕ)) (opened_a : A) (opened_b : B)
-    (kept : Result T HostError) (status : Status) (h : Opened s0 s1 taken faults k0 k1 a b before
-    after f2 f3 c2 c3 g2 g3 n1 n2 opened_a opened_b kept) where
+module _ {K T A B : Type 0} (s0 s1 : SourceValue) (taken : K → Option (List ℕ)) (faults : K → ℕ) (k0 k1 : K)
+    (a b : List ℕ) (before after : Moment) (f2 f3 : Option Files) (c2 c3 : Counts) (g2 g3 : List ℕ → ℕ)
+    (n1 n2 : List (List ℕ)) (opened_a : A) (opened_b : B) (kept : Result T HostError) (status : Status)
+    (h : Opened s0 s1 taken faults k0 k1 a b before after f2 f3 c2 c3 g2 g3 n1 n2 opened_a opened_b kept) where
   -- the course of a copy whose files were opened
   opened_course : (count : ℕ) (bytes : List ℕ) (clean pull put : Bool) → Pulled s0 s1 count bytes →
       (clean ≡ true → IsAtEnd s1.rest) → CountsBy pull 0 s1.faults → CountsBy put 0 (faults k1) →
@@ -110,7 +110,8 @@ module _ {K T A B : Type 0} (s0 s1 : SourceValue) (taken : K → Option (List �
             h.counts pulls h.pulls puts h.puts;
         gave = gave_after a bytes before.gave g2 g3 after.gave s1.given h.gave pulled.gave h.gives h.gave_kept;
         known = subst (λ ks. SameNames ks (before.known ++ a ∷ b ∷ [])) (sym h.known)
-            (same_names-then a b before.known n1 n2 (known_by_open a before.known n1 (Ok opened_a) h.known_a h.known_a.own)
+            (same_names-then a b before.known n1 n2
+            (known_by_open a before.known n1 (Ok opened_a) h.known_a h.known_a.own)
             (known_by_open b n1 n2 (Ok opened_b) h.known_b h.known_b.own));
       }
 
@@ -155,8 +156,8 @@ module _ {K T A B : Type 0} (s0 s1 : SourceValue) (taken : K → Option (List �
           ends = ends ∙ ap (λ n. record { task = 0; given = n; clean = ran.clean } ∷ []) counted;
           files = told_more before.files after.files
               (KeptFiles (opl_text (stream_read reading)) b put (has_failed kept)) (FilesAfter (copy_command a b) c)
-              (files_after_keep before.files f2 f3 after.files b (opl_text (stream_read reading)) put (taken k0) (taken k1)
-              kept h.made h.closed h.empty took h.keeps no_memory)
+              (files_after_keep before.files f2 f3 after.files b (opl_text (stream_read reading)) put (taken k0)
+              (taken k1) kept h.made h.closed h.empty took h.keeps no_memory)
               (λ m n held. record {
                 written = (
                   tt,

@@ -1,7 +1,7 @@
 //! Runs an Osmosis command line over a host, and answers its status.
 //!
-//! `run_alone` is the top call. Its contract is one relation between the words, the host before, the
-//! host after and the status: the outcome of a run.
+//! `run_alone` is the top call. Its contract is one relation between the words, the host before it,
+//! the host after it and the status: the outcome of a run.
 #![tactic(auto)]
 
 mod copy_laws;
