@@ -13,8 +13,8 @@ use Rattle.osm_run.specs.Course.{Course, source_limit, meaning_of, wrong_fault, 
 use Rattle.osm_run.specs.OnHost.{GivesFile, IsCourse}
 use Rattle.osm_run.specs.HowFar.{WhereTold, WasUsed, IsWritten, FilesAfter, AfterTasks}
 use Rattle.osm_run.specs.Outcome.{IsRun}
-use Rattle.osm_run.specs.Lawful.{GoesOn, IsSameMeaning, IsLawful}
-use Rattle.osm_run.specs.Headline.{TasksRan, HoldsBytes, IsWholeFile, IsWholeCourse, IsComplete, NoneRose, IsUnspilled}
+use Rattle.osm_run.specs.Lawful.{GoesOnAlike, IsSameMeaning, IsLawful}
+use Rattle.osm_run.specs.Headline.{RanItsTasks, HoldsBytes, IsWholeFile, IsWholeCourse, IsComplete, NoneRose, IsUnspilled}
 use Rattle.osm_run.specs.declared.status.Fault.TheVariants.{Input}
 use Rattle.osm_run.specs.declared.status.Status.{Status}
 use Rattle.osm_run.proofs.EachLemmas.{all_more, all_both, all_pairs, none_any, none_each}
@@ -82,7 +82,7 @@ module _ (k : Command) (c whole : Course) (before after : Moment) (status : Stat
   same : IsSameMeaning k.plan (meaning_of k c) (meaning_of k whole)
   same = lawful.settled (λ task. take source_limit (c.given task)) (λ task. take source_limit (whole.given task))
       c.clean whole.clean (all_more (IsMatched k c whole)
-      (GoesOn k (λ task. take source_limit (c.given task)) (λ task. take source_limit (whole.given task)) c.clean
+      (GoesOnAlike k (λ task. take source_limit (c.given task)) (λ task. take source_limit (whole.given task)) c.clean
       whole.clean) (λ u is. is.goes_on) (uses k.plan) matched)
 
   -- the faults of a file, where its task is not wrong
@@ -147,7 +147,7 @@ module _ (k : Command) (c whole : Course) (before after : Moment) (status : Stat
 
 -- where no count rose, a run whose tasks ran is that over whole files
 pub complete_run : (k : Command) (before after : Moment) (status : Status) (run : IsRun k before after status) →
-    IsLawful k → TasksRan run.how_far → NoneRose before after →
+    IsLawful k → RanItsTasks run.how_far → NoneRose before after →
     AllByRecursion (IsUnspilled run.course) (uses k.plan) → WhereTold before.files after.files
     (λ was now. (whole : Course) → IsWholeCourse k was whole → IsComplete k whole now status)
 complete_run k before after status run lawful ran calm unspilled =

@@ -24,23 +24,24 @@ use Rattle.osm_run.specs.Outcome.{IsRun, IsRefusedOrRun, IsUnchanged}
 use Rattle.osm_run.specs.Causes.{HasCauses}
 use Rattle.osm_run.specs.Codes.{code_of}
 use Rattle.osm_run.specs.Copying.{copy_command, command_of, IsCopyRun, IsNotBuilt}
-use Rattle.osm_run.specs.Headline.{TasksRan, OthersStay, NoneRose, HoldsBytes, HoldsUnlessRose, IsWholeCourse, IsComplete, content}
-use Rattle.osm_run.specs.Promises.{IsCopyOf, IsWholeCopy, HoldsLinesRead, IsCalmCopy}
+use Rattle.osm_run.specs.Headline.{RanItsTasks, OthersStay, NoneRose, HoldsBytes, HoldsUnlessRose, HoldsPrefixUnlessRose, SameFiles, IsWholeCourse, IsComplete, content}
+use Rattle.osm_run.specs.Promises.{IsCopyOf, IsWholeCopy, AreLinesRead, HoldsLinesRead, HoldsPrefixRead, IsCalmCopy}
 use Rattle.osm_run.specs.declared.status.Fault.{Fault}
 use Rattle.osm_run.specs.declared.status.Fault.TheVariants.{Clean, NotBuilt, Input, TooLong, Device, Memory}
 use Rattle.osm_run.specs.declared.status.DeviceCall.TheVariants.{Open}
 use Rattle.osm_run.specs.declared.status.SourceEnd.{SourceEnd}
 use Rattle.osm_run.specs.declared.status.Status.{Status}
-use Rattle.osm_run.proofs.EachLemmas.{all_left, all_more}
+use Rattle.osm_run.proofs.EachLemmas.{all_more}
 use Rattle.osm_run.proofs.CleanLemmas.{told_by, told_more, clean_tasks, ends_came, clean_ends, clean_finish, clean_counts, clean_files}
 use Rattle.osm_run.proofs.CountedLemmas.{IsCounted, IsUnfailed, opened_counted, calm_unfailed, last_opened, not_true}
 use Rattle.osm_run.proofs.StayLemmas.{not_refused, other_files}
-use Rattle.osm_run.proofs.HoldLemmas.{ran_tasks, writers_hold_bytes}
+use Rattle.osm_run.proofs.HoldLemmas.{ran_tasks, writers_hold_bytes, writers_hold_prefixes}
 use Rattle.osm_run.proofs.CauseOfLemmas.{fault_cause}
 use Rattle.osm_run.proofs.EntryLemmas.{unclean_cause}
 use Rattle.osm_run.proofs.CompleteLemmas.{complete_run}
 use Rattle.osm_run.proofs.LawfulLemmas.{copy_lawful}
-use Rattle.osm_run.proofs.CopyReadLemmas.{IsOfCopy, no_stop, open_fault, copy_read, ended_within, finish_whole, whole_course, is_whole, whole_fault}
+use Rattle.osm_run.proofs.CopyStopLemmas.{IsOfCopy, all_of_copy, no_stop, open_fault, opens_same}
+use Rattle.osm_run.proofs.CopyReadLemmas.{copy_read, ended_within, finish_whole, whole_course, is_whole, whole_fault}
 
 -- refused words name task 0
 refused_exactly : (asked : Option Command) (before after : Moment) (status : Status) →
@@ -86,13 +87,6 @@ clean_code Memory is = absurd (omega (arith, is))
 abbrev lines_of_read : Course → List ℕ
 lines_of_read c = opl_text (stream_read (opl_reading Entities (take source_limit (c.given 0)) (c.clean 0)))
 
--- the files of a copy are one that is read and one that is written
-all_of_copy : (from to : List ℕ) (c : Course) (before after : Moment) (status : Status) →
-    (run : IsRun (copy_command from to) before after status) → AllByRecursion IsOfCopy run.course.opened
-all_of_copy from to c before after status run =
-    all_left IsOfCopy run.course.opened run.is_course.order.0
-    (subst (AllByRecursion IsOfCopy) run.is_course.order.1 (tt, (tt, tt)))
-
 module _ (from to : List ℕ) (before after : Moment) (status : Status)
     (copy : IsCopyOf from to before after status) where
   -- the run of the copy
@@ -107,21 +101,21 @@ module _ (from to : List ℕ) (before after : Moment) (status : Status)
 
   last_of_copy : (stop : AfterStop (copy_command from to) run_of.course before after status) → IsOfCopy stop.last
   last_of_copy stop = last_opened (copy_command from to) run_of.course before after status IsOfCopy stop
-      (all_of_copy from to run_of.course before after status run_of)
+      (all_of_copy from to before after status run_of)
 
   -- the tasks ran where no file failed to open and memory was there
   ran_case : (far : HowFar (copy_command from to) run_of.course before after status) → (status.fault ≡ Memory → ⊥) →
-      (AfterStop (copy_command from to) run_of.course before after status → ⊥) → TasksRan far
+      (AfterStop (copy_command from to) run_of.course before after status → ⊥) → RanItsTasks far
   ran_case (Stopped stop) memory stopped = absurd (stopped stop)
   ran_case (Ran t) memory stopped = tt
   ran_case (OutOfMemory m) memory stopped = absurd (memory m.fault)
 
-  opened_all : status.code ≢ 6 → ((task : ℕ) → status.fault ≢ Device task Open) → TasksRan run_of.how_far
+  opened_all : status.code ≢ 6 → ((task : ℕ) → status.fault ≢ Device task Open) → RanItsTasks run_of.how_far
   opened_all memory opens = ran_case run_of.how_far (memory_there memory)
       (λ stop. opens stop.last.0 (open_fault from to run_of.course stop.last status.fault stop.fault.0
       (last_of_copy stop) stop.fault.1))
 
-  calm_all : status.code ≢ 6 → NoneRose before after → TasksRan run_of.how_far
+  calm_all : status.code ≢ 6 → NoneRose before after → RanItsTasks run_of.how_far
   calm_all memory calm = ran_case run_of.how_far (memory_there memory)
       (λ stop. no_stop from to run_of.course stop.last status.fault stop.fault.0
       (last_opened (copy_command from to) run_of.course before after status (IsUnfailed run_of.course) stop
@@ -174,13 +168,30 @@ module _ (from to : List ℕ) (before after : Moment) (status : Status)
       (clean_files (copy_command from to) before after status run_of (no_fault code)) (λ was now holds. holds.1.0))
       (λ was now told lines. whole_files code was now told lines)
 
+  -- the lines of what was read, as its entry tells
+  are_lines : AfterTasks (copy_command from to) run_of.course before after status → (was : Files) →
+      before.files ≡ Some was →
+      AreLinesRead from (record { task = 0; given = length (run_of.course.given 0); clean = run_of.course.clean 0 }) was
+      (lines_of_read run_of.course)
+  are_lines t was told =
+      let read : IsReadFrom (run_of.course.given 0) (run_of.course.clean 0) (finite.get was from) =
+      copy_read from to run_of.course before after status was run_of.is_course t told in
+      record {
+        bytes = run_of.course.given 0;
+        rest = read.rest;
+        there = read.there;
+        given = refl;
+        whole = read.whole;
+        written = refl;
+      }
+
   -- where the tasks ran and no put and no keep failed, the file holds the lines of what was read
   pub copy_lines : status.code ≢ 6 → ((task : ℕ) → status.fault ≢ Device task Open) →
       (Rose (before.count Put to) (after.count Put to) → ⊥) →
       (Rose (before.count Keep to) (after.count Keep to) → ⊥) → (e : SourceEnd) × (status.ends ≡ e ∷ [])
       × WhereTold before.files after.files (HoldsLinesRead from to e)
   copy_lines memory opens puts keeps =
-      let ran : TasksRan run_of.how_far = opened_all memory opens in
+      let ran : RanItsTasks run_of.how_far = opened_all memory opens in
       let t : AfterTasks (copy_command from to) run_of.course before after status =
       ran_tasks (copy_command from to) run_of.course before after status run_of.how_far ran in (
         record { task = 0; given = length (run_of.course.given 0); clean = run_of.course.clean 0 },
@@ -189,17 +200,26 @@ module _ (from to : List ℕ) (before after : Moment) (status : Status)
             (λ was now. AllByRecursion (HoldsUnlessRose (copy_command from to) run_of.course before after now)
             (uses (copy_command from to).plan)) (HoldsLinesRead from to _)
             (writers_hold_bytes (copy_command from to) before after status run_of ran)
+            (λ was now told holds. (lines_of_read run_of.course, are_lines t was told, holds.1.0 puts keeps refl)),
+      )
+
+  -- where no keep failed, it holds the first bytes of them
+  pub copy_prefix : status.code ≢ 6 → ((task : ℕ) → status.fault ≢ Device task Open) →
+      (Rose (before.count Keep to) (after.count Keep to) → ⊥) → (e : SourceEnd) × (status.ends ≡ e ∷ [])
+      × WhereTold before.files after.files (HoldsPrefixRead from to e)
+  copy_prefix memory opens keeps =
+      let ran : RanItsTasks run_of.how_far = opened_all memory opens in
+      let t : AfterTasks (copy_command from to) run_of.course before after status =
+      ran_tasks (copy_command from to) run_of.course before after status run_of.how_far ran in (
+        record { task = 0; given = length (run_of.course.given 0); clean = run_of.course.clean 0 },
+        t.ends,
+        told_by before.files after.files
+            (λ was now. AllByRecursion (HoldsPrefixUnlessRose (copy_command from to) run_of.course before after now)
+            (uses (copy_command from to).plan)) (HoldsPrefixRead from to _)
+            (writers_hold_prefixes (copy_command from to) before after status run_of ran)
             (λ was now told holds.
-            let read : IsReadFrom (run_of.course.given 0) (run_of.course.clean 0) (finite.get was from) =
-            copy_read from to run_of.course before after status was run_of.is_course t told in
-            record {
-              bytes = run_of.course.given 0;
-              rest = read.rest;
-              there = read.there;
-              given = refl;
-              whole = read.whole;
-              lines = holds.1.0 puts keeps refl;
-            }),
+            let prefix = holds.1.0 keeps in
+            (lines_of_read run_of.course, are_lines t was told, prefix.0, prefix.1)),
       )
 
   -- each other name stays
@@ -223,7 +243,7 @@ module _ (from to : List ℕ) (before after : Moment) (status : Status)
   )
 
   -- where no call failed and memory was there, the fault and the file are those of the whole file
-  calm_files : (ran : TasksRan run_of.how_far) → (was now : Files) → before.files ≡ Some was →
+  calm_files : (ran : RanItsTasks run_of.how_far) → (was now : Files) → before.files ≡ Some was →
       ((whole : Course) → IsWholeCourse (copy_command from to) was whole →
       IsComplete (copy_command from to) whole now status) → IsCalmCopy from to status.fault was now
   calm_files ran was now told complete =
@@ -243,9 +263,14 @@ module _ (from to : List ℕ) (before after : Moment) (status : Status)
   pub copy_calm : NoneRose before after → status.code ≢ 6 →
       WhereTold before.files after.files (IsCalmCopy from to status.fault)
   copy_calm calm memory =
-      let ran : TasksRan run_of.how_far = calm_all memory calm in
+      let ran : RanItsTasks run_of.how_far = calm_all memory calm in
       told_by before.files after.files
       (λ was now. (whole : Course) → IsWholeCourse (copy_command from to) was whole →
       IsComplete (copy_command from to) whole now status) (IsCalmCopy from to status.fault)
       (complete_run (copy_command from to) before after status run_of (copy_lawful from to) ran calm (tt, (tt, tt)))
       (calm_files ran)
+
+  -- where a file could not be opened, every file stays
+  pub copy_opens : (task : ℕ) → status.fault ≡ Device task Open → WhereTold before.files after.files SameFiles
+  copy_opens task fault =
+      opens_same from to run_of.course before after status task fault run_of.is_course run_of.how_far

@@ -12,10 +12,9 @@ use Rattle.osm_entity.specs.declared.verdict.Cause.{Cause}
 use Rattle.osm_entity.specs.declared.verdict.Spot.{Spot}
 use Rattle.osm_host.specs.Contents.{Files}
 use Rattle.osm_host.specs.Moments.{Moment}
-use Rattle.osm_host.specs.declared.outside.Op.TheVariants.{Open as OpenOp, Make, Pull}
+use Rattle.osm_host.specs.declared.outside.Op.TheVariants.{Pull}
 use Rattle.osm_opl_line.specs.Reading.{opl_reading}
-use Rattle.osm_run.specs.Plan.{Polygon, Source, Store, Sink, Use}
-use Rattle.osm_run.specs.Course.{Course, source_limit, meaning_of, call_fault, wrong_fault, opening_faults, run_faults, first_fault}
+use Rattle.osm_run.specs.Course.{Course, source_limit, meaning_of, wrong_fault, run_faults, first_fault}
 use Rattle.osm_run.specs.OnHost.{IsReadFrom, GivesFrom, GivesFile, IsCourse}
 use Rattle.osm_run.specs.HowFar.{HowRead, ReachedEnd, PassedLimit, PullFailed, WasWrong, AfterTasks}
 use Rattle.osm_run.specs.Copying.{copy_command}
@@ -23,42 +22,11 @@ use Rattle.osm_run.specs.Headline.{IsWholeCourse, content}
 use Rattle.osm_run.specs.Promises.{whole_reading, fault_read}
 use Rattle.osm_run.specs.declared.status.Fault.{Fault}
 use Rattle.osm_run.specs.declared.status.Fault.TheVariants.{TooLong, Device}
-use Rattle.osm_run.specs.declared.status.DeviceCall.TheVariants.{Open, Read}
+use Rattle.osm_run.specs.declared.status.DeviceCall.TheVariants.{Read}
 use Rattle.osm_run.specs.declared.status.Status.{Status}
 use Rattle.osm_run.proofs.CleanLemmas.{no_bool}
-use Rattle.osm_run.proofs.CountedLemmas.{IsUnfailed}
-use Rattle.osm_run.proofs.CalmStopLemmas.{no_call_fault}
 use Rattle.osm_run.proofs.LawfulLemmas.{wrong_read}
 use Rattle.osm_run.proofs.ReadLemmas.{not_cut, not_whole}
-
--- a file of a copy is read or written
-abbrev pub IsOfCopy : Use → Type 0
-IsOfCopy (task, Source name) = Unit {0}
-IsOfCopy (task, Sink name) = Unit {0}
-IsOfCopy (task, file) = ⊥
-
--- no file of a copy has a fault of its opening where no call failed
-pub no_stop : (from to : List ℕ) (c : Course) (u : Use) (fault : Fault) (more : List Fault) → IsUnfailed c u →
-    IsOfCopy u → opening_faults (copy_command from to) c u ≡ fault ∷ more → ⊥
-no_stop from to c (task, Polygon name) fault more unfailed of is = absurd of
-no_stop from to c (task, Store) fault more unfailed of is = absurd of
-no_stop from to c (task, Source name) fault more unfailed of is =
-    no_call_fault task Open (c.failed OpenOp task) fault more (unfailed.each OpenOp refl) is
-no_stop from to c (task, Sink name) fault more unfailed of is =
-    no_call_fault task Open (c.failed Make task) fault more (unfailed.each Make refl) is
-
-open_call : (task : ℕ) (b : Bool) (fault : Fault) (more : List Fault) → call_fault task Open b ≡ fault ∷ more →
-    fault ≡ Device task Open
-open_call task true fault more is = sym (ap first_fault is)
-open_call task false fault more is = cc
-
--- the fault of opening a file of a copy is that it could not be opened
-pub open_fault : (from to : List ℕ) (c : Course) (u : Use) (fault : Fault) (more : List Fault) → IsOfCopy u →
-    opening_faults (copy_command from to) c u ≡ fault ∷ more → fault ≡ Device u.0 Open
-open_fault from to c (task, Polygon name) fault more of is = absurd of
-open_fault from to c (task, Store) fault more of is = absurd of
-open_fault from to c (task, Source name) fault more of is = open_call task (c.failed OpenOp task) fault more is
-open_fault from to c (task, Sink name) fault more of is = open_call task (c.failed Make task) fault more is
 
 none_cut : (opl_reading Entities [] false).ending ≡ Cut
 unfolding opl_reading

@@ -5,6 +5,8 @@ use Rattle.std.specs.List.{AllByRecursion}
 use Rattle.osm_host.specs.declared.outside.Op.TheVariants.{Open as OpenOp, Make, Put, Keep as KeepOp}
 use Rattle.osm_run.specs.Plan.{File, Polygon, Source, Store, Sink, Use, numbered, uses}
 use Rattle.osm_entity.specs.Meaning.{Finish, Whole, Passed, Cut, Wrong, Meaning}
+use Rattle.osm_entity.specs.declared.verdict.Cause.{Cause}
+use Rattle.osm_entity.specs.declared.verdict.Spot.{Spot}
 use Rattle.osm_run.specs.Command.{Command}
 use Rattle.osm_run.specs.Course.{Course, source_limit, polygon_limit, meaning_of, call_fault, cut_fault, wrong_fault, opening_faults, file_faults, task_faults, keep_faults, run_faults, first_fault}
 use Rattle.osm_run.specs.Codes.{code_of}
@@ -24,65 +26,112 @@ is_met fault = false
 abbrev pub IsMet : Fault → Type 0
 IsMet fault = is_met fault ≡ true
 
-call_met : (task : ℕ) (call : DeviceCall) (b : Bool) → AllByRecursion IsMet (call_fault task call b)
-call_met task call true = (refl, tt)
-call_met task call false = tt
+-- what holds of each fault with which the tasks of a run end
+pub record OfTasks (P : Fault → Type 0) : Type 0 where
+  pub wrong : (task : ℕ) (cause : Cause) (spot : Spot) → P (Input task cause spot)
+  pub long : (task : ℕ) → P (TooLong task)
+  pub read : (task : ℕ) → P (Device task Read)
+  pub write : (task : ℕ) → P (Device task Write)
+  pub keep : (task : ℕ) → P (Device task Keep)
+  pub spill : (task : ℕ) → P (Device task Spill)
 
-wrong_met : (task : ℕ) (finish : Finish) → AllByRecursion IsMet (wrong_fault task finish)
-wrong_met task Whole = tt
-wrong_met task Passed = tt
-wrong_met task Cut = tt
-wrong_met task (Wrong cause spot) = (refl, tt)
+call_all : (P : Fault → Type 0) (task : ℕ) (call : DeviceCall) → P (Device task call) → (b : Bool) →
+    AllByRecursion P (call_fault task call b)
+call_all P task call holds true = (holds, tt)
+call_all P task call holds false = tt
 
-long_met : (task : ℕ) (b : Bool) → IsMet (if b then TooLong task else Device task Read)
-long_met task true = refl
-long_met task false = refl
+module _ (P : Fault → Type 0) (of : OfTasks P) where
+  wrong_all : (task : ℕ) (finish : Finish) → AllByRecursion P (wrong_fault task finish)
+  wrong_all task Whole = tt
+  wrong_all task Passed = tt
+  wrong_all task Cut = tt
+  wrong_all task (Wrong cause spot) = (of.wrong task cause spot, tt)
 
-cut_met_case : (task : ℕ) (clean long : Bool) →
-    AllByRecursion IsMet (if clean then [] else (if long then TooLong task else Device task Read) ∷ [])
-cut_met_case task true long = tt
-cut_met_case task false long = (long_met task long, tt)
+  cut_all_case : (task : ℕ) (clean long : Bool) →
+      AllByRecursion P (if clean then [] else (if long then TooLong task else Device task Read) ∷ [])
+  cut_all_case task true long = tt
+  cut_all_case task false true = (of.long task, tt)
+  cut_all_case task false false = (of.read task, tt)
 
-cut_met : (c : Course) (task limit : ℕ) → AllByRecursion IsMet (cut_fault c task limit)
-cut_met c task limit = cut_met_case task (c.clean task) (nat_lt limit (length (c.given task)))
+  cut_all : (c : Course) (task limit : ℕ) → AllByRecursion P (cut_fault c task limit)
+  cut_all c task limit = cut_all_case task (c.clean task) (nat_lt limit (length (c.given task)))
+
+  -- the faults of opening a file
+  pub opening_all : ((task : ℕ) → P (Device task Open)) → (k : Command) (c : Course) (u : Use) →
+      AllByRecursion P (opening_faults k c u)
+  opening_all opens k c (task, Polygon name) =
+      all_append P (call_fault task Open (c.failed OpenOp task) ++ cut_fault c task polygon_limit)
+      (wrong_fault task (k.area (c.given task)))
+      (all_append P (call_fault task Open (c.failed OpenOp task)) (cut_fault c task polygon_limit)
+      (call_all P task Open (opens task) (c.failed OpenOp task)) (cut_all c task polygon_limit))
+      (wrong_all task (k.area (c.given task)))
+  opening_all opens k c (task, Source name) = call_all P task Open (opens task) (c.failed OpenOp task)
+  opening_all opens k c (task, Store) = call_all P task Spill (of.spill task) (c.failed OpenOp task)
+  opening_all opens k c (task, Sink name) = call_all P task Open (opens task) (c.failed Make task)
+
+  file_all : (c : Course) (task : ℕ) (file : File) → AllByRecursion P (file_faults c task file)
+  file_all c task (Polygon name) = tt
+  file_all c task (Source name) = cut_all c task source_limit
+  file_all c task Store = call_all P task Spill (of.spill task) (c.spilled task)
+  file_all c task (Sink name) = call_all P task Write (of.write task) (c.failed Put task)
+
+  task_all : (m : Meaning) (c : Course) (t : ℕ × List File) → AllByRecursion P (task_faults m c t)
+  task_all m c (task, files) = all_append P (wrong_fault task (m.finish task)) (flat_map (file_faults c task) files)
+      (wrong_all task (m.finish task))
+      (flat_map_all P (file_faults c task) files
+      (all_every (λ file. AllByRecursion P (file_faults c task file)) (file_all c task) files))
+
+  keep_all : (c : Course) (u : Use) → AllByRecursion P (keep_faults c u)
+  keep_all c (task, Polygon name) = tt
+  keep_all c (task, Source name) = tt
+  keep_all c (task, Store) = tt
+  keep_all c (task, Sink name) = call_all P task Keep (of.keep task) (c.failed KeepOp task)
+
+  -- the faults of a run whose tasks ran
+  pub faults_all : (k : Command) (c : Course) → AllByRecursion P (run_faults k c)
+  faults_all k c = all_append P (flat_map (task_faults (meaning_of k c) c) (numbered k.plan))
+      (flat_map (keep_faults c) (uses k.plan))
+      (flat_map_all P (task_faults (meaning_of k c) c) (numbered k.plan)
+      (all_every (λ t. AllByRecursion P (task_faults (meaning_of k c) c t)) (task_all (meaning_of k c) c)
+      (numbered k.plan)))
+      (flat_map_all P (keep_faults c) (uses k.plan)
+      (all_every (λ u. AllByRecursion P (keep_faults c u)) (keep_all c) (uses k.plan)))
+
+all_met : OfTasks IsMet
+all_met = record {
+  wrong = λ task cause spot. refl;
+  long = λ task. refl;
+  read = λ task. refl;
+  write = λ task. refl;
+  keep = λ task. refl;
+  spill = λ task. refl;
+}
 
 pub opening_met : (k : Command) (c : Course) (u : Use) → AllByRecursion IsMet (opening_faults k c u)
-opening_met k c (task, Polygon name) =
-    all_append IsMet (call_fault task Open (c.failed OpenOp task) ++ cut_fault c task polygon_limit)
-    (wrong_fault task (k.area (c.given task)))
-    (all_append IsMet (call_fault task Open (c.failed OpenOp task)) (cut_fault c task polygon_limit)
-    (call_met task Open (c.failed OpenOp task)) (cut_met c task polygon_limit))
-    (wrong_met task (k.area (c.given task)))
-opening_met k c (task, Source name) = call_met task Open (c.failed OpenOp task)
-opening_met k c (task, Store) = call_met task Spill (c.failed OpenOp task)
-opening_met k c (task, Sink name) = call_met task Open (c.failed Make task)
-
-file_met : (c : Course) (task : ℕ) (file : File) → AllByRecursion IsMet (file_faults c task file)
-file_met c task (Polygon name) = tt
-file_met c task (Source name) = cut_met c task source_limit
-file_met c task Store = call_met task Spill (c.spilled task)
-file_met c task (Sink name) = call_met task Write (c.failed Put task)
-
-task_met : (m : Meaning) (c : Course) (t : ℕ × List File) → AllByRecursion IsMet (task_faults m c t)
-task_met m c (task, files) = all_append IsMet (wrong_fault task (m.finish task)) (flat_map (file_faults c task) files)
-    (wrong_met task (m.finish task))
-    (flat_map_all IsMet (file_faults c task) files
-    (all_every (λ file. AllByRecursion IsMet (file_faults c task file)) (file_met c task) files))
-
-keep_met : (c : Course) (u : Use) → AllByRecursion IsMet (keep_faults c u)
-keep_met c (task, Polygon name) = tt
-keep_met c (task, Source name) = tt
-keep_met c (task, Store) = tt
-keep_met c (task, Sink name) = call_met task Keep (c.failed KeepOp task)
+opening_met = opening_all IsMet all_met (λ task. refl)
 
 pub faults_met : (k : Command) (c : Course) → AllByRecursion IsMet (run_faults k c)
-faults_met k c = all_append IsMet (flat_map (task_faults (meaning_of k c) c) (numbered k.plan))
-    (flat_map (keep_faults c) (uses k.plan))
-    (flat_map_all IsMet (task_faults (meaning_of k c) c) (numbered k.plan)
-    (all_every (λ t. AllByRecursion IsMet (task_faults (meaning_of k c) c t)) (task_met (meaning_of k c) c)
-    (numbered k.plan)))
-    (flat_map_all IsMet (keep_faults c) (uses k.plan)
-    (all_every (λ u. AllByRecursion IsMet (keep_faults c u)) (keep_met c) (uses k.plan)))
+faults_met = faults_all IsMet all_met
+
+-- whether a fault is that a file could not be opened
+abbrev pub is_opening : Fault → Bool
+is_opening (Device task Open) = true
+is_opening fault = false
+
+-- where tasks ran, the fault is not that a file could not be opened
+pub first_later : (k : Command) (c : Course) → is_opening (first_fault (run_faults k c)) ≡ false
+first_later k c = first (run_faults k c) (faults_all (λ f. is_opening f ≡ false) (record {
+  wrong = λ task cause spot. refl;
+  long = λ task. refl;
+  read = λ task. refl;
+  write = λ task. refl;
+  keep = λ task. refl;
+  spill = λ task. refl;
+}) k c) where
+  first : (faults : List Fault) → AllByRecursion (λ f. is_opening f ≡ false) faults →
+      is_opening (first_fault faults) ≡ false
+  first [] all = refl
+  first (fault ∷ more) all = all.0
 
 -- faults whose first is none are none
 pub first_none : (faults : List Fault) → AllByRecursion IsMet faults → first_fault faults ≡ Clean → faults ≡ []

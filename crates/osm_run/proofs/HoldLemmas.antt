@@ -12,7 +12,7 @@ use Rattle.osm_run.specs.Command.{Command}
 use Rattle.osm_run.specs.Course.{Course, meaning_of, is_spilled, is_cut_short}
 use Rattle.osm_run.specs.HowFar.{IsFileOf, IsWritten, FilesAfter, AfterTasks, HowFar, Stopped, Ran, OutOfMemory}
 use Rattle.osm_run.specs.Outcome.{IsRun}
-use Rattle.osm_run.specs.Headline.{EachFileNow, TasksRan, HoldsUnlessRose, HoldsPrefixUnlessRose}
+use Rattle.osm_run.specs.Headline.{EachFileNow, RanItsTasks, HoldsUnlessRose, HoldsPrefixUnlessRose}
 use Rattle.osm_run.specs.declared.status.Status.{Status}
 use Rattle.osm_run.proofs.EachLemmas.{all_both}
 use Rattle.osm_run.proofs.CleanLemmas.{told_more, held}
@@ -47,7 +47,7 @@ module _ (k : Command) (c : Course) (before after : Moment) (now : Files) where
 
 -- the tasks of a run that ran
 pub ran_tasks : (k : Command) (c : Course) (before after : Moment) (status : Status) →
-    (far : HowFar k c before after status) → TasksRan far → AfterTasks k c before after status
+    (far : HowFar k c before after status) → RanItsTasks far → AfterTasks k c before after status
 ran_tasks k c before after status (Stopped s) ran = absurd ran
 ran_tasks k c before after status (Ran t) ran = t
 ran_tasks k c before after status (OutOfMemory m) ran = absurd ran
@@ -55,7 +55,7 @@ ran_tasks k c before after status (OutOfMemory m) ran = absurd ran
 -- what holds of each writer whose file is as the run wrote it
 writers : (k : Command) (before after : Moment) (status : Status) (run : IsRun k before after status) →
     (P : Files → Use → Type 0) → ((now : Files) (u : Use) → IsCounted k before after run.course u →
-    IsWritten k run.course now u → P now u) → TasksRan run.how_far → EachFileNow k.plan before after P
+    IsWritten k run.course now u → P now u) → RanItsTasks run.how_far → EachFileNow k.plan before after P
 writers k before after status run P each ran =
     let t : AfterTasks k run.course before after status =
     ran_tasks k run.course before after status run.how_far ran in
@@ -65,14 +65,14 @@ writers k before after status run P each ran =
     (uses k.plan) (all_counted k run.course before after t.opened run.is_course) files.written)
 
 pub writers_hold_bytes : (k : Command) (before after : Moment) (status : Status) →
-    (run : IsRun k before after status) → TasksRan run.how_far →
+    (run : IsRun k before after status) → RanItsTasks run.how_far →
     EachFileNow k.plan before after (HoldsUnlessRose k run.course before after)
 writers_hold_bytes k before after status run =
     writers k before after status run (HoldsUnlessRose k run.course before after)
     (writer_holds k run.course before after)
 
 pub writers_hold_prefixes : (k : Command) (before after : Moment) (status : Status) →
-    (run : IsRun k before after status) → TasksRan run.how_far →
+    (run : IsRun k before after status) → RanItsTasks run.how_far →
     EachFileNow k.plan before after (HoldsPrefixUnlessRose k run.course before after)
 writers_hold_prefixes k before after status run =
     writers k before after status run (HoldsPrefixUnlessRose k run.course before after)

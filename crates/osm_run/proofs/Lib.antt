@@ -25,5 +25,6 @@ pub mod WholeLemmas
 pub mod CompleteLemmas
 pub mod CalmStopLemmas
 pub mod LawfulLemmas
+pub mod CopyStopLemmas
 pub mod CopyReadLemmas
 pub mod CopyLawLemmas

@@ -22,12 +22,19 @@ use Rattle.osm_run.proofs.PlanLemmas.{all_uses, all_openings}
 use Rattle.osm_run.proofs.FirstFaultLemmas.{IsMet, opening_met, faults_met, met_code}
 use Rattle.osm_run.proofs.CleanLemmas.{told_more, uncounted}
 
+-- what is no sink is none of any name
+pub not_sink : (n : List ℕ) (u : Use) → is_sink u ≡ false → is_sink_named n u ≡ false
+not_sink n (task, Polygon name) is = refl
+not_sink n (task, Source name) is = refl
+not_sink n (task, Store) is = refl
+not_sink n (task, Sink name) is = let no : true ≡ false = is in cc
+
 made_or_not : {T : Type 0} (b : Bool) (x y : T) → b ≡ false → (if b then x else y) ≡ y
 made_or_not true x y is = absurd (let no : true ≡ false = is in cc)
 made_or_not false x y is = refl
 
 -- where no sink has a name, that file stays
-not_made : (made : List Use) (was now : Files) (n : List ℕ) → FilesMade made was now →
+pub not_made : (made : List Use) (was now : Files) (n : List ℕ) → FilesMade made was now →
     AllByRecursion (λ u. is_sink_named n u ≡ false) made → finite.get now n ≡ finite.get was n
 not_made made was now n files none = files n
     ∙ made_or_not (list_any (is_sink_named n) made) (Some []) (finite.get was n) (none_any (is_sink_named n) made none)

@@ -15,7 +15,7 @@ use Rattle.osm_run.specs.Command.{Command}
 use Rattle.osm_run.specs.Course.{Course, source_limit, meaning_of, call_fault, wrong_fault, opening_faults, file_faults, keep_faults}
 use Rattle.osm_run.specs.OnHost.{IsAtRest, IsReadFrom, GivesFile}
 use Rattle.osm_run.specs.HowFar.{HowRead, ReachedEnd, PassedLimit, PullFailed, WasWrong, WasUsed}
-use Rattle.osm_run.specs.Lawful.{GoesOn}
+use Rattle.osm_run.specs.Lawful.{GoesOnAlike}
 use Rattle.osm_run.specs.Headline.{content, IsWholeFile, IsWholeCourse, IsUnspilled}
 use Rattle.osm_run.specs.declared.status.Fault.{Fault}
 use Rattle.osm_run.specs.declared.status.Fault.TheVariants.{TooLong, Device, Input}
@@ -87,7 +87,7 @@ begins c task file (inr read) = record {
 
 -- a file against its whole: its bytes go on, and its faults begin alike unless its task is wrong
 pub record IsMatched (k : Command) (c whole : Course) (u : Use) : Type 0 where
-  pub goes_on : GoesOn k (λ task. take source_limit (c.given task)) (λ task. take source_limit (whole.given task))
+  pub goes_on : GoesOnAlike k (λ task. take source_limit (c.given task)) (λ task. take source_limit (whole.given task))
       c.clean whole.clean u
   pub first : (wrong_fault u.0 ((meaning_of k c).finish u.0) ≡ [] →
       SameFirst (file_faults c u.0 u.1) (file_faults whole u.0 u.1))

@@ -28,10 +28,10 @@ OfEachRun holds = (k : Command) (before after : Moment) (status : Status) → (r
     holds k before after status run
 
 -- the tasks ran: the run did not stop at an opening, and was not out of memory
-abbrev pub TasksRan : {k : Command} {c : Course} {before after : Moment} {status : Status} →
+abbrev pub RanItsTasks : {k : Command} {c : Course} {before after : Moment} {status : Status} →
     HowFar k c before after status → Type 0
-TasksRan (Ran tasks) = ⊤
-TasksRan how_far = ⊥
+RanItsTasks (Ran tasks) = ⊤
+RanItsTasks how_far = ⊥
 
 -- where files are told, this holds of each file of a plan in what they then are
 abbrev pub EachFileNow : Plan → Moment → Moment → (Files → Use → Type 0) → Type 0

@@ -32,11 +32,11 @@ pub record GoesOnWrong (m : Meaning) (bytes more : ℕ → List ℕ) (clean : �
   pub joined : more task ≡ bytes task ++ rest
 
 -- a reader's bytes and their end are the same, or they go on after a wrong spot; those of a polygon file are the same
-abbrev pub GoesOn : Command → (bytes more : ℕ → List ℕ) → (clean end : ℕ → Bool) → Use → Type 0
-GoesOn k bytes more clean end (task, Source name) =
+abbrev pub GoesOnAlike : Command → (bytes more : ℕ → List ℕ) → (clean end : ℕ → Bool) → Use → Type 0
+GoesOnAlike k bytes more clean end (task, Source name) =
     ((more task ≡ bytes task) × (end task ≡ clean task)) ⊎ GoesOnWrong (k.meaning bytes clean) bytes more clean task
-GoesOn k bytes more clean end (task, Polygon name) = more task ≡ bytes task
-GoesOn k bytes more clean end (task, file) = ⊤
+GoesOnAlike k bytes more clean end (task, Polygon name) = more task ≡ bytes task
+GoesOnAlike k bytes more clean end (task, file) = ⊤
 
 -- two meanings of the tasks of a plan are one
 pub record IsSameMeaning (plan : Plan) (m n : Meaning) : Type 0 where
@@ -49,5 +49,5 @@ pub record IsLawful (k : Command) : Type 0 where
       AllByRecursion (IsRight (k.meaning bytes clean)) (numbered k.plan) →
       AllByRecursion (EndsWhole (k.meaning bytes clean)) (numbered k.plan)
   pub settled : (bytes more : ℕ → List ℕ) (clean end : ℕ → Bool) →
-      AllByRecursion (GoesOn k bytes more clean end) (uses k.plan) →
+      AllByRecursion (GoesOnAlike k bytes more clean end) (uses k.plan) →
       IsSameMeaning k.plan (k.meaning bytes clean) (k.meaning more end)

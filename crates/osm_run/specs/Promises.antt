@@ -28,15 +28,24 @@ pub record IsWholeCopy (from to : List ℕ) (before after : Files) : Type 0 wher
   pub whole : (opl_reading Entities bytes true).ending ≡ Whole
   pub lines : finite.get after to ≡ Some (opl_text (stream_read (opl_reading Entities bytes true)))
 
--- a file holds the lines of what was read of another: of so many of its first bytes as the entry says
-pub record HoldsLinesRead (from to : List ℕ) (e : SourceEnd) (before after : Files) : Type 0 where
+-- the lines of the items that were read of a file: of as many of its first bytes as the entry tells
+pub record AreLinesRead (from : List ℕ) (e : SourceEnd) (files : Files) (lines : List ℕ) : Type 0 where
   pub bytes : List ℕ
   pub rest : List ℕ
-  pub there : finite.get before from ≡ Some (bytes ++ rest)
+  pub there : finite.get files from ≡ Some (bytes ++ rest)
   pub given : length bytes ≡ e.given
   pub whole : e.clean ≡ true → rest ≡ []
-  pub lines : finite.get after to
-      ≡ Some (opl_text (stream_read (opl_reading Entities (take source_limit bytes) e.clean)))
+  pub written : lines ≡ opl_text (stream_read (opl_reading Entities (take source_limit bytes) e.clean))
+
+-- a file holds the lines of what was read of another
+abbrev pub HoldsLinesRead : (from to : List ℕ) → SourceEnd → Files → Files → Type 0
+HoldsLinesRead from to e before after =
+    (lines : List ℕ) × AreLinesRead from e before lines × (finite.get after to ≡ Some lines)
+
+-- a file holds the first bytes of those lines
+abbrev pub HoldsPrefixRead : (from to : List ℕ) → SourceEnd → Files → Files → Type 0
+HoldsPrefixRead from to e before after =
+    (lines : List ℕ) × AreLinesRead from e before lines × (size : ℕ) × (finite.get after to ≡ Some (take size lines))
 
 -- what a whole file says by its first bytes up to the limit
 abbrev pub whole_reading : List ℕ → Reading

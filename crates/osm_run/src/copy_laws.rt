@@ -8,11 +8,11 @@ ghost use Rattle.osm_host.specs.declared.outside.Op.{Op};
 ghost use Rattle.osm_host.specs.declared.outside.Op.TheVariants.{Put, Keep};
 ghost use Rattle.osm_run.specs.Causes.{HasCauses};
 ghost use Rattle.osm_run.specs.Copying.{IsCopyRun, command_of, copy_command, line_of};
-ghost use Rattle.osm_run.specs.Headline.{NoneRose};
+ghost use Rattle.osm_run.specs.Headline.{NoneRose, SameFiles};
 ghost use Rattle.osm_run.specs.HowFar.{WhereTold};
 ghost use Rattle.osm_run.specs.Lawful.{IsLawful};
 ghost use Rattle.osm_run.specs.Outcome.{IsRun, IsSaid, IsUnchanged};
-ghost use Rattle.osm_run.specs.Promises.{HoldsLinesRead, IsCalmCopy, IsCopyOf, IsWholeCopy};
+ghost use Rattle.osm_run.specs.Promises.{HoldsLinesRead, HoldsPrefixRead, IsCalmCopy, IsCopyOf, IsWholeCopy};
 ghost use Rattle.osm_run.specs.declared.status.DeviceCall.TheVariants.{Open};
 ghost use Rattle.osm_run.specs.declared.status.Fault.TheVariants.{Device, NotBuilt};
 ghost use Rattle.osm_run.specs.declared.status.SourceEnd.{SourceEnd};
@@ -40,9 +40,10 @@ pub fn words_are_refused_rightly()
 /// After status 0 the file that was read is whole, the other holds the lines of all its items, each
 /// entry is clean, and no call failed. Unless the run was out of memory, a file couldn't be opened,
 /// or a put or keep of the file that is written failed, that file holds the lines of what was read,
-/// which the one entry tells. Every other name stays. Each fault has its cause. Where no call
-/// failed and memory was there, the fault and the file are those of the whole file that was read.
-/// Where no call failed that says it, the line of the fault was said, and nothing else.
+/// which the one entry tells; where no keep failed, it holds the first bytes of them. Where a file
+/// couldn't be opened, every file stays. Every other name stays always. Each fault has its cause.
+/// Where no call failed and memory was there, the fault and the file are those of the whole file
+/// that was read. Where no call failed that says it, the line of the fault was said, and no more.
 pub fn copies_keep_the_headline()
     // After status 0.
     ensures whole { (from to : List ℕ) (before after : Moment) (status : Status) →
@@ -62,6 +63,14 @@ pub fn copies_keep_the_headline()
         (Rose (before.count Put to) (after.count Put to) → ⊥) →
         (Rose (before.count Keep to) (after.count Keep to) → ⊥) → (e : SourceEnd) ×
         (status.ends ≡ e ∷ []) × WhereTold before.files after.files (HoldsLinesRead from to e) }
+    ensures prefix { (from to : List ℕ) (before after : Moment) (status : Status) →
+        IsCopyOf from to before after status → status.code ≢ 6 →
+        ((task : ℕ) → status.fault ≢ Device task Open) →
+        (Rose (before.count Keep to) (after.count Keep to) → ⊥) → (e : SourceEnd) ×
+        (status.ends ≡ e ∷ []) × WhereTold before.files after.files (HoldsPrefixRead from to e) }
+    ensures opens { (from to : List ℕ) (before after : Moment) (status : Status) →
+        IsCopyOf from to before after status → (task : ℕ) → status.fault ≡ Device task Open →
+        WhereTold before.files after.files SameFiles }
     ensures others { (from to : List ℕ) (before after : Moment) (status : Status) →
         IsCopyOf from to before after status → WhereTold before.files after.files
         (λ was now. (n : List ℕ) → n ≢ to → finite.get now n ≡ finite.get was n) }

@@ -8,7 +8,7 @@ ghost use Rattle.osm_run.specs.Codes.{code_of};
 ghost use Rattle.osm_run.specs.Command.{Command};
 ghost use Rattle.osm_run.specs.Copying.{copy_command};
 ghost use Rattle.osm_run.specs.Course.{Course, entries, meaning_of};
-ghost use Rattle.osm_run.specs.Headline.{EachFileNow, HoldsBytes, HoldsPrefixUnlessRose, HoldsUnlessRose, IsCalmStop, IsComplete, IsUnspilled, IsWholeCourse, NoneRose, OfEachRun, OthersStay, SameFiles, TasksRan, TellsReader};
+ghost use Rattle.osm_run.specs.Headline.{EachFileNow, HoldsBytes, HoldsPrefixUnlessRose, HoldsUnlessRose, IsCalmStop, IsComplete, IsUnspilled, IsWholeCourse, NoneRose, OfEachRun, OthersStay, SameFiles, RanItsTasks, TellsReader};
 ghost use Rattle.osm_run.specs.HowFar.{AfterStop, IsBeforeSinks, WhereTold};
 ghost use Rattle.osm_run.specs.Lawful.{EndsWhole, IsLawful};
 ghost use Rattle.osm_run.specs.OnHost.{IsCourse};
@@ -37,9 +37,9 @@ pub fn clean_runs()
 /// Where the tasks ran, a writer's name holds its bytes unless its count of puts or keeps rose or a
 /// store on the way to it failed, and the first bytes of them unless its count of keeps rose.
 pub fn writers_hold()
-    ensures bytes { OfEachRun (λ k before after status run. TasksRan run.how_far →
+    ensures bytes { OfEachRun (λ k before after status run. RanItsTasks run.how_far →
         EachFileNow k.plan before after (HoldsUnlessRose k run.course before after)) }
-    ensures prefix { OfEachRun (λ k before after status run. TasksRan run.how_far →
+    ensures prefix { OfEachRun (λ k before after status run. RanItsTasks run.how_far →
         EachFileNow k.plan before after (HoldsPrefixUnlessRose k run.course before after)) }
 {}
 
@@ -86,7 +86,7 @@ pub fn faults_have_causes()
 /// Where no count of a name rose and no store failed, a run of a lawful command whose tasks ran has
 /// the fault and the files of its meaning over whole files.
 pub fn calm_runs_are_complete()
-    ensures { OfEachRun (λ k before after status run. IsLawful k → TasksRan run.how_far →
+    ensures { OfEachRun (λ k before after status run. IsLawful k → RanItsTasks run.how_far →
         NoneRose before after → AllByRecursion (IsUnspilled run.course) (uses k.plan) →
         WhereTold before.files after.files (λ was now. (whole : Course) →
         IsWholeCourse k was whole → IsComplete k whole now status)) }
