@@ -25,7 +25,7 @@ use Rattle.osm_run.specs.OnHost.{CountsBy, IsCourse, SameNames}
 use Rattle.osm_run.specs.Outcome.{IsRun}
 use Rattle.osm_run.specs.Pulling.{Pulled, PulledSome}
 use Rattle.osm_run.specs.Reading.{reading_of}
-use Rattle.osm_run.specs.Tasks.{TakenBy, TasksRan}
+use Rattle.osm_run.specs.Tasks.{TakenBy, ItemsCopied}
 use Rattle.osm_run.specs.declared.copying.Ran.{Ran as RanValue}
 use Rattle.osm_run.specs.declared.status.Fault.TheVariants.{Memory}
 use Rattle.osm_run.specs.declared.status.Status.{Status}
@@ -114,7 +114,7 @@ module _ {K T A B : Type 0} (s0 s1 : SourceValue) (taken : K → Option (List �
       }
 
   -- the tasks ran, and the keep was not out of memory
-  tasks_ran : (count : ℕ) (ran : RanValue) → TasksRan s0 s1 taken faults k0 k1 count ran →
+  tasks_ran : (count : ℕ) (ran : RanValue) → ItemsCopied s0 s1 taken faults k0 k1 count ran →
       (kept ≡ Err HostMemory → ⊥) → status.fault ≡ fault_by (Ok ran) kept →
       status.ends ≡ entry_of count (Ok ran) ∷ [] → IsRun (copy_command a b) before after status
   tasks_ran count ran tasks no_memory fault ends =
@@ -191,7 +191,7 @@ module _ {K T A B : Type 0} (s0 s1 : SourceValue) (taken : K → Option (List �
       }
 
   outcome_by : (count : ℕ) (ran : Result RanValue NoMemory) (answer : Result T HostError) → kept ≡ answer →
-      IfOk ran (TasksRan s0 s1 taken faults k0 k1 count) →
+      IfOk ran (ItemsCopied s0 s1 taken faults k0 k1 count) →
       OnErr ran (PulledSome s0 s1 count) → status.fault ≡ fault_by ran answer →
       status.ends ≡ entry_of count ran ∷ [] → IsRun (copy_command a b) before after status
   outcome_by count (Err none) answer same tasks (bytes, pulled) fault ends =
@@ -209,7 +209,7 @@ module _ {K T A B : Type 0} (s0 s1 : SourceValue) (taken : K → Option (List �
 
   -- the outcome of a copy whose files were opened
   pub opened_outcome : (count : ℕ) (ran : Result RanValue NoMemory) →
-      IfOk ran (TasksRan s0 s1 taken faults k0 k1 count) →
+      IfOk ran (ItemsCopied s0 s1 taken faults k0 k1 count) →
       OnErr ran (PulledSome s0 s1 count) → status.fault ≡ fault_by ran kept →
       status.ends ≡ entry_of count ran ∷ [] → IsRun (copy_command a b) before after status
   opened_outcome count ran tasks some fault ends = outcome_by count ran kept refl tasks some fault ends
