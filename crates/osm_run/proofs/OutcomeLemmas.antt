@@ -3,9 +3,8 @@ use Rattle.std.proofs.Common.{◌≡◌, ℕ, ◌<◌, ◌≤◌, List, [], ◌�
 use Rattle.std.specs.Prelude.{Option, Some, None, Ok, Err, IfOk, OnErr}
 use Rattle.std.specs.FinMap as finite
 use Rattle.std.specs.Str.{bytes_eq}
-use Rattle.std.specs.Io.KnownBytes.{prepend_known, IsAtEnd}
+use Rattle.std.specs.Io.KnownBytes.{IsAtEnd}
 use Rattle.std.specs.declared.result.Result.{Result}
-use Rattle.osm_entity.specs.Meaning.{finish_read}
 use Rattle.osm_entity.specs.Readings.{Reading, Cut, Whole, stream_read, verdict_read}
 use Rattle.osm_entity.specs.declared.kind.Flow.TheVariants.{Entities}
 use Rattle.osm_entity.specs.declared.sequence.NoMemory.{NoMemory}
@@ -17,16 +16,15 @@ use Rattle.osm_host.specs.Names.{KnownByCall}
 use Rattle.osm_host.specs.Pulls.{SourceValue}
 use Rattle.osm_host.specs.declared.outside.HostError.{HostError}
 use Rattle.osm_host.specs.declared.outside.HostError.TheVariants.{Failed, Memory as HostMemory}
-use Rattle.osm_host.specs.declared.outside.Op.{Op}
 use Rattle.osm_host.specs.declared.outside.Op.TheVariants.{Pull}
 use Rattle.osm_run.specs.Copying.{copy_command}
-use Rattle.osm_run.specs.Course.{Course, source_limit, is_cut_short, entries}
+use Rattle.osm_run.specs.Course.{Course, source_limit}
 use Rattle.osm_run.specs.Faults.{entry_of, fault_by, fault_by_verdict}
-use Rattle.osm_run.specs.HowFar.{AfterTasks, FilesAfter, HowRead, IsFileOf, OthersAtMemory, OutOfMemory, Ran, WhereTold}
+use Rattle.osm_run.specs.HowFar.{FilesAfter, IsFileOf, OthersAtMemory, OutOfMemory, Ran, WhereTold}
 use Rattle.osm_run.specs.OnHost.{CountsBy, IsCourse, SameNames}
 use Rattle.osm_run.specs.Outcome.{IsRun}
 use Rattle.osm_run.specs.Pulling.{Pulled, PulledSome}
-use Rattle.osm_run.specs.Reading.{SourceIsRead, reading_of}
+use Rattle.osm_run.specs.Reading.{reading_of}
 use Rattle.osm_run.specs.Tasks.{TakenBy, ItemsCopied}
 use Rattle.osm_run.specs.declared.copying.Ran.{Ran as RanValue}
 use Rattle.osm_run.specs.declared.status.Fault.TheVariants.{Memory}

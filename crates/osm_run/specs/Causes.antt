@@ -14,6 +14,7 @@ use Rattle.osm_run.specs.Command.{Command}
 use Rattle.osm_run.specs.Course.{Course, source_limit, polygon_limit, meaning_of, task_faults}
 use Rattle.osm_run.specs.declared.status.Fault.{Fault}
 use Rattle.osm_run.specs.declared.status.Fault.TheVariants.{Clean, Input, TooLong, Device, Memory}
+use Rattle.osm_run.specs.declared.status.DeviceCall.{DeviceCall}
 use Rattle.osm_run.specs.declared.status.DeviceCall.TheVariants.{Open, Read, Write, Keep, Spill}
 use Rattle.osm_run.specs.declared.status.SourceEnd.{SourceEnd}
 use Rattle.osm_run.specs.declared.status.Status.{Status}
@@ -46,18 +47,22 @@ pub data WasWrongAt (k : Command) (c : Course) (task : ℕ) (cause : Cause) (spo
 abbrev pub NoneClean : List SourceEnd → ℕ → Type 0
 NoneClean ends task = AllByRecursion (λ e. e.task ≡ task → e.clean ≡ false) ends
 
+-- what has to be so for a call of a task to be blamed
+abbrev pub BlameOf : Command → Course → Moment → Moment → List SourceEnd → ℕ → DeviceCall → Type 0
+BlameOf k c before after ends task Open =
+    RoseAt k.plan before after OpenOp task ⊎ RoseAt k.plan before after Make task
+BlameOf k c before after ends task Read = RoseAt k.plan before after Pull task × NoneClean ends task
+BlameOf k c before after ends task Write = RoseAt k.plan before after Put task
+BlameOf k c before after ends task Keep = RoseAt k.plan before after KeepOp task
+BlameOf k c before after ends task Spill =
+    Contains (uses k.plan) (task, Store) × ((c.failed OpenOp task ≡ true) ⊎ (c.spilled task ≡ true))
+
 -- what has to be so for each fault to come; a command that runs is never refused
 abbrev pub CauseOf : Command → Course → Moment → Moment → List SourceEnd → Fault → Type 0
 CauseOf k c before after ends Clean = (op : Op) (n : List ℕ) → after.count op n ≡ before.count op n
 CauseOf k c before after ends (Input task cause spot) = WasWrongAt k c task cause spot
 CauseOf k c before after ends (TooLong task) = GaveTooMuch k.plan c ends task
-CauseOf k c before after ends (Device task Open) =
-    RoseAt k.plan before after OpenOp task ⊎ RoseAt k.plan before after Make task
-CauseOf k c before after ends (Device task Read) = RoseAt k.plan before after Pull task × NoneClean ends task
-CauseOf k c before after ends (Device task Write) = RoseAt k.plan before after Put task
-CauseOf k c before after ends (Device task Keep) = RoseAt k.plan before after KeepOp task
-CauseOf k c before after ends (Device task Spill) =
-    Contains (uses k.plan) (task, Store) × ((c.failed OpenOp task ≡ true) ⊎ (c.spilled task ≡ true))
+CauseOf k c before after ends (Device task call) = BlameOf k c before after ends task call
 CauseOf k c before after ends Memory = ⊤
 CauseOf k c before after ends refusal = ⊥
 

@@ -1,10 +1,10 @@
 -- The fault and the entry of a copy, by what its calls answered.
 -- Here each is told by cases of the answers; the outcome says what they mean.
-use Rattle.std.specs.Prelude.{ℕ, Bool, true, false, if◌then◌else◌, Ok, Err}
+use Rattle.std.specs.Prelude.{ℕ, Bool, false, if◌then◌else◌, Ok, Err}
 use Rattle.std.specs.declared.result.Result.{Result}
 use Rattle.osm_entity.specs.declared.sequence.NoMemory.{NoMemory}
 use Rattle.osm_entity.specs.declared.verdict.Verdict.{Verdict}
-use Rattle.osm_entity.specs.declared.verdict.Verdict.TheVariants.{Running, Clean as ReadClean, Passed, Input as WrongInput, TooLong as TooMuch, Read as NotRead, Write as NotWritten, Memory as NoRoom}
+use Rattle.osm_entity.specs.declared.verdict.Verdict.TheVariants.{Input as WrongInput, TooLong as TooMuch, Read as NotRead}
 use Rattle.osm_host.specs.declared.outside.HostError.{HostError}
 use Rattle.osm_host.specs.declared.outside.HostError.TheVariants.{Failed, Memory as HostMemory}
 use Rattle.osm_run.specs.declared.copying.Ran.{Ran}
