@@ -81,7 +81,7 @@ pub record IsBehind {M : Type 0} (of : Meanings M) (m : M) (x y : Ports) (given 
   pub wrote : WrotePrefix (of.wrote m) (text_meant of m x)
   pub devices : of.devices m given
 
--- a machine that found no memory says so, and is behind
+-- a machine that is out of memory says so, and is behind
 pub record IsStopped {M : Type 0} (of : Meanings M) (m : M) (x y : Ports) (given : Given M) : Type 0 where
   pub behind : IsBehind of m x y given
   pub verdict : of.verdict m ≡ Memory

@@ -23,12 +23,6 @@ item_in Skipped = None
 item_in (Good item) = Some item
 item_in (Bad cause) = None
 
--- the items that a line says
-abbrev pub items_in : LineValue → List ItemValue
-items_in Skipped = []
-items_in (Good item) = item ∷ []
-items_in (Bad cause) = []
-
 -- a reader that passed the line which came off: a bad one ends it
 abbrev pub passed : LineValue → ReaderValue → ReaderValue
 passed Skipped r = record r { lines = r.lines + 1 }
