@@ -29,7 +29,7 @@ passed Skipped r = record r { lines = r.lines + 1 }
 passed (Good item) r = record r { lines = r.lines + 1 }
 passed (Bad cause) r = record r { verdict = Input cause (Line (r.lines + 1)) }
 
--- a line came off the unread bytes; after a bad one nothing counts that comes yet
+-- a line came off, and the reading is what it says and then that of the rest; of a bad line only where no more comes
 pub record TakesLine (old new : ReaderValue) (value : LineValue) : Type 0 where
   pub same : new ≡ record old { unread = new.unread }
   pub shorter : length (unread_bytes new.unread) < length (unread_bytes old.unread)

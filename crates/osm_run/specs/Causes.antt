@@ -28,13 +28,14 @@ pub record RoseAt (plan : Plan) (before after : Moment) (op : Op) (task : ℕ) :
   pub called : is_called op (task, file) ≡ true
   pub rose : Rose (before.count op name) (after.count op name)
 
--- a task has a file that gave more bytes than count: a polygon file, or a source, of which its entry tells
+-- a file of a task gave more bytes than its limit: a polygon file, or by its entry a source
 pub data GaveTooMuch (plan : Plan) (c : Course) (ends : List SourceEnd) (task : ℕ) : Type 0 where
   OfPolygon : (name : List ℕ) → Contains (uses plan) (task, Polygon name) → polygon_limit < length (c.given task) →
       GaveTooMuch plan c ends task
   OfSource : (e : SourceEnd) → Contains ends e → e.task ≡ task → source_limit < e.given → GaveTooMuch plan c ends task
 
--- a polygon file that was read whole is wrong; or this is how a task ends, and no earlier task is at fault
+-- a polygon file of the task, read whole, is wrong there; or the task ends wrong there, and no earlier one is at
+-- fault
 pub data WasWrongAt (k : Command) (c : Course) (task : ℕ) (cause : Cause) (spot : Spot) : Type 0 where
   AtPolygon : (name : List ℕ) → Contains (uses k.plan) (task, Polygon name) → c.clean task ≡ true →
       k.area (c.given task) ≡ Wrong cause spot → WasWrongAt k c task cause spot
