@@ -21,11 +21,17 @@ use Rattle.osm_host.specs.Feeds.{MayCome, reached_end, verdict_after}
 use Rattle.osm_host.specs.declared.feed.Feed.TheVariants.{Open}
 use Rattle.osm_host.proofs.FeedLemmas.{may_end, take-limit, verdict_settled}
 use Rattle.osm_opl.specs.Reader.{ReaderValue, WantsPull}
-use Rattle.osm_opl.specs.Passing.{HasNoLine, SameRest, TakesLine, is_bad, item_in, items_in, passed}
+use Rattle.osm_opl.specs.Passing.{HasNoLine, SameRest, TakesLine, is_bad, item_in, passed}
 use Rattle.osm_opl.specs.Standing.{GaveItems, Stands, reading_from, reader_reading}
 use Rattle.osm_opl.specs.Unread.{UnreadValue, HasNoNewline, unread_bytes}
 use Rattle.osm_opl.proofs.KeepingLemmas.{held_all, settled_is}
 use Rattle.osm_opl.proofs.ReadingLemmas.{only, opl_reading-from, reading_from-none, is_line-open}
+
+-- the items that a line says
+abbrev pub items_in : LineValue → List ItemValue
+items_in Skipped = []
+items_in (Good item) = item ∷ []
+items_in (Bad cause) = []
 
 -- a new reader stands for nothing
 pub new_stands : (r : ReaderValue) → r.given ≡ 0 → r.feed ≡ Open → r.lines ≡ 0 →

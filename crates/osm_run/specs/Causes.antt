@@ -14,6 +14,7 @@ use Rattle.osm_run.specs.Command.{Command}
 use Rattle.osm_run.specs.Course.{Course, source_limit, polygon_limit, meaning_of, task_faults}
 use Rattle.osm_run.specs.declared.status.Fault.{Fault}
 use Rattle.osm_run.specs.declared.status.Fault.TheVariants.{Clean, Input, TooLong, Device, Memory}
+use Rattle.osm_run.specs.declared.status.DeviceCall.{DeviceCall}
 use Rattle.osm_run.specs.declared.status.DeviceCall.TheVariants.{Open, Read, Write, Keep, Spill}
 use Rattle.osm_run.specs.declared.status.SourceEnd.{SourceEnd}
 use Rattle.osm_run.specs.declared.status.Status.{Status}
@@ -27,13 +28,14 @@ pub record RoseAt (plan : Plan) (before after : Moment) (op : Op) (task : ℕ) :
   pub called : is_called op (task, file) ≡ true
   pub rose : Rose (before.count op name) (after.count op name)
 
--- a task has a file that gave more bytes than count: a polygon file, or a source, of which its entry tells
+-- a file of a task gave more bytes than its limit: a polygon file, or by its entry a source
 pub data GaveTooMuch (plan : Plan) (c : Course) (ends : List SourceEnd) (task : ℕ) : Type 0 where
   OfPolygon : (name : List ℕ) → Contains (uses plan) (task, Polygon name) → polygon_limit < length (c.given task) →
       GaveTooMuch plan c ends task
   OfSource : (e : SourceEnd) → Contains ends e → e.task ≡ task → source_limit < e.given → GaveTooMuch plan c ends task
 
--- a polygon file that was read whole is wrong; or this is how a task ends, and no earlier task is at fault
+-- a polygon file of the task, read whole, is wrong there; or the task ends wrong there, and no earlier one is at
+-- fault
 pub data WasWrongAt (k : Command) (c : Course) (task : ℕ) (cause : Cause) (spot : Spot) : Type 0 where
   AtPolygon : (name : List ℕ) → Contains (uses k.plan) (task, Polygon name) → c.clean task ≡ true →
       k.area (c.given task) ≡ Wrong cause spot → WasWrongAt k c task cause spot
@@ -46,18 +48,22 @@ pub data WasWrongAt (k : Command) (c : Course) (task : ℕ) (cause : Cause) (spo
 abbrev pub NoneClean : List SourceEnd → ℕ → Type 0
 NoneClean ends task = AllByRecursion (λ e. e.task ≡ task → e.clean ≡ false) ends
 
+-- what has to be so for a call of a task to be blamed
+abbrev pub BlameOf : Command → Course → Moment → Moment → List SourceEnd → ℕ → DeviceCall → Type 0
+BlameOf k c before after ends task Open =
+    RoseAt k.plan before after OpenOp task ⊎ RoseAt k.plan before after Make task
+BlameOf k c before after ends task Read = RoseAt k.plan before after Pull task × NoneClean ends task
+BlameOf k c before after ends task Write = RoseAt k.plan before after Put task
+BlameOf k c before after ends task Keep = RoseAt k.plan before after KeepOp task
+BlameOf k c before after ends task Spill =
+    Contains (uses k.plan) (task, Store) × ((c.failed OpenOp task ≡ true) ⊎ (c.spilled task ≡ true))
+
 -- what has to be so for each fault to come; a command that runs is never refused
 abbrev pub CauseOf : Command → Course → Moment → Moment → List SourceEnd → Fault → Type 0
 CauseOf k c before after ends Clean = (op : Op) (n : List ℕ) → after.count op n ≡ before.count op n
 CauseOf k c before after ends (Input task cause spot) = WasWrongAt k c task cause spot
 CauseOf k c before after ends (TooLong task) = GaveTooMuch k.plan c ends task
-CauseOf k c before after ends (Device task Open) =
-    RoseAt k.plan before after OpenOp task ⊎ RoseAt k.plan before after Make task
-CauseOf k c before after ends (Device task Read) = RoseAt k.plan before after Pull task × NoneClean ends task
-CauseOf k c before after ends (Device task Write) = RoseAt k.plan before after Put task
-CauseOf k c before after ends (Device task Keep) = RoseAt k.plan before after KeepOp task
-CauseOf k c before after ends (Device task Spill) =
-    Contains (uses k.plan) (task, Store) × ((c.failed OpenOp task ≡ true) ⊎ (c.spilled task ≡ true))
+CauseOf k c before after ends (Device task call) = BlameOf k c before after ends task call
 CauseOf k c before after ends Memory = ⊤
 CauseOf k c before after ends refusal = ⊥
 

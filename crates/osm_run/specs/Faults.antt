@@ -23,18 +23,18 @@ abbrev pub entry_of : ℕ → Result Ran NoMemory → SourceEnd
 entry_of given (Ok ran) = record { task = 0; given = given; clean = ran.clean }
 entry_of given (Err none) = record { task = 0; given = given; clean = false }
 
--- a failed put is a fault before what is left
+-- the fault of a failed put, else what is left
 abbrev pub write_fault : Bool → Fault → Fault
 write_fault put_failed left = if put_failed then Device 1 Write else left
 
--- a reader's fault before its writer's, and both before what is left
+-- the reader's fault by its verdict, else the writer's, else what is left
 abbrev pub fault_by_verdict : Verdict → Bool → Fault → Fault
 fault_by_verdict (WrongInput cause spot) put_failed left = Input 0 cause spot
 fault_by_verdict TooMuch put_failed left = TooLong 0
 fault_by_verdict NotRead put_failed left = Device 0 Read
 fault_by_verdict verdict put_failed left = write_fault put_failed left
 
--- the fault of a copy whose tasks ran so
+-- the first fault of a copy's tasks, else what is left
 abbrev pub fault_before : Ran → Fault → Fault
 fault_before ran left = fault_by_verdict ran.reader ran.put_failed left
 

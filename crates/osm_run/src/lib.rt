@@ -11,8 +11,6 @@ mod putting;
 mod reading;
 mod running;
 mod status;
-#[cfg(test)]
-mod tests;
 mod words;
 
 pub use copy_laws::{copies_are_lawful, copies_keep_the_headline, words_are_refused_rightly};

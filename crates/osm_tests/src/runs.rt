@@ -2,10 +2,9 @@
 ghost use Rattle.std.specs.Prelude.{◌≡◌, ◌≢◌, ◌<◌, IfOk};
 ghost use Rattle.std.specs.List.{AllPairs};
 
-use crate::running::run_alone;
-use crate::status::{DeviceCall, Fault, SourceEnd, Status};
 use osm_entity::{Bytes, Cause, NoMemory, Sequence, Spot, Steps, Text, TextError};
 use osm_host::{FailAt, Fails, FileHeld, Files, Host, MemoryHost, Op};
+use osm_run::{DeviceCall, Fault, SourceEnd, Status, run_alone};
 use std::alloc::Global;
 use std::marker::Brand;
 use std::process::Abort;

@@ -3,9 +3,9 @@ ghost use Rattle.std.specs.Prelude.{◌≡◌, ◌<◌, OnOk};
 ghost use Rattle.osm_entity.specs.declared.verdict.Verdict.TheVariants.{Running};
 ghost use Rattle.osm_opl.specs.Reader.{CanPull};
 
-use crate::{OplReader, OplWriter};
 use osm_entity::{Bytes, Cause, Flow, Spot, Text, Verdict};
 use osm_host::{FailAt, Fails, FileHeld, Files, Host, HostError, MemoryHost, Op, Sink, Source};
+use osm_opl::{OplReader, OplWriter};
 use std::alloc::Global;
 use std::process::Abort;
 use std::test::Fail;

@@ -1,7 +1,7 @@
 //! Lines with what only their cause shows, and lines of change files, which no command copies.
 //! Answers are taken from the format's rules or worked out by hand.
-use crate::{LineRead, read_line, write_line};
 use osm_entity::{Act, Bytes, Cause, Flow, Item, NoMemory};
+use osm_opl_line::{LineRead, read_line, write_line};
 use std::alloc::Global;
 use std::test::Fail;
 
