@@ -17,21 +17,29 @@ pub record TaskRow : Type 0 where
   pub options : List OptionName
 
 -- a task whose short name differs
-abbrev pub named : List ℕ → List ℕ → List Flow → Option Flow → List OptionName → TaskRow
-named name short inputs output options =
+abbrev pub row_with_short : List ℕ → List ℕ → List Flow → Option Flow → List OptionName → TaskRow
+row_with_short name short inputs output options =
     record { name = name; short = short; inputs = inputs; output = output; options = options }
 
 -- a task without a short name
-abbrev pub long : List ℕ → List Flow → Option Flow → List OptionName → TaskRow
-long name inputs output options = named name name inputs output options
+abbrev pub row_without_short : List ℕ → List Flow → Option Flow → List OptionName → TaskRow
+row_without_short name inputs output options = row_with_short name name inputs output options
 
 -- one entity stream
-abbrev pub entities : List Flow
-entities = Entities ∷ []
+abbrev pub one_entities : List Flow
+one_entities = Entities ∷ []
 
 -- one change stream
-abbrev pub changes : List Flow
-changes = Changes ∷ []
+abbrev pub one_changes : List Flow
+one_changes = Changes ∷ []
+
+-- two entity streams
+abbrev pub two_entities : List Flow
+two_entities = Entities ∷ Entities ∷ []
+
+-- two change streams
+abbrev pub two_changes : List Flow
+two_changes = Changes ∷ Changes ∷ []
 
 -- the options of the two area tasks, beside what the area is
 abbrev pub area_options : List OptionName
@@ -43,35 +51,45 @@ pbf_options = File ∷ Batchlimit ∷ Usedense ∷ Omitmetadata ∷ Compress ∷
 
 -- the row of a task
 abbrev pub task_row : TaskName → TaskRow
-task_row ReadPbf = named (codes "read-pbf") (codes "rb") [] (Some Entities) (File ∷ [])
-task_row ReadOpl = long (codes "read-opl") [] (Some Entities) (File ∷ [])
-task_row ReadOplChange = long (codes "read-opl-change") [] (Some Changes) (File ∷ [])
-task_row ReadEmpty = named (codes "read-empty") (codes "rem") [] (Some Entities) []
-task_row ReadMade = long (codes "read-made") [] (Some Entities) (Count ∷ Seed ∷ [])
-task_row WritePbf = named (codes "write-pbf") (codes "wb") entities None pbf_options
-task_row WriteOpl = long (codes "write-opl") entities None (File ∷ [])
-task_row WriteOplChange = long (codes "write-opl-change") changes None (File ∷ [])
-task_row WriteNull = named (codes "write-null") (codes "wn") entities None []
-task_row WriteSummary = long (codes "write-summary") entities None (File ∷ [])
+task_row ReadPbf = row_with_short (codes "read-pbf") (codes "rb") [] (Some Entities) (File ∷ [])
+task_row ReadOpl = row_without_short (codes "read-opl") [] (Some Entities) (File ∷ [])
+task_row ReadOplChange = row_without_short (codes "read-opl-change") [] (Some Changes) (File ∷ [])
+task_row ReadEmpty = row_with_short (codes "read-empty") (codes "rem") [] (Some Entities) []
+task_row ReadMade = row_without_short (codes "read-made") [] (Some Entities) (Count ∷ Seed ∷ [])
+task_row WritePbf = row_with_short (codes "write-pbf") (codes "wb") one_entities None pbf_options
+task_row WriteOpl = row_without_short (codes "write-opl") one_entities None (File ∷ [])
+task_row WriteOplChange = row_without_short (codes "write-opl-change") one_changes None (File ∷ [])
+task_row WriteNull = row_with_short (codes "write-null") (codes "wn") one_entities None []
+task_row WriteSummary = row_without_short (codes "write-summary") one_entities None (File ∷ [])
 task_row Merge =
-    named (codes "merge") (codes "m") (Entities ∷ Entities ∷ []) (Some Entities) (ConflictResolutionMethod ∷ [])
+    row_with_short (codes "merge") (codes "m") two_entities (Some Entities) (ConflictResolutionMethod ∷ [])
 task_row MergeChange =
-    named (codes "merge-change") (codes "mc") (Changes ∷ Changes ∷ []) (Some Changes) (ConflictResolutionMethod ∷ [])
-task_row AppendChange = named (codes "append-change") (codes "apc") (Changes ∷ Changes ∷ []) (Some Changes) []
-task_row ApplyChange = named (codes "apply-change") (codes "ac") (Entities ∷ Changes ∷ []) (Some Entities) []
-task_row SimplifyChange = named (codes "simplify-change") (codes "simc") changes (Some Changes) []
-task_row Tee = named (codes "tee") (codes "t") entities (Some Entities) (OutputCount ∷ [])
-task_row TeeChange = named (codes "tee-change") (codes "tc") changes (Some Changes) (OutputCount ∷ [])
-task_row Buffer = named (codes "buffer") (codes "b") entities (Some Entities) (BufferCapacity ∷ [])
-task_row BufferChange = named (codes "buffer-change") (codes "bc") changes (Some Changes) (BufferCapacity ∷ [])
-task_row Spool = long (codes "spool") entities (Some Entities) []
-task_row SpoolChange = long (codes "spool-change") changes (Some Changes) []
+    row_with_short (codes "merge-change") (codes "mc") two_changes (Some Changes) (ConflictResolutionMethod ∷ [])
+task_row AppendChange = row_with_short (codes "append-change") (codes "apc") two_changes (Some Changes) []
+task_row ApplyChange = row_with_short (codes "apply-change") (codes "ac") (Entities ∷ Changes ∷ []) (Some Entities) []
+task_row SimplifyChange = row_with_short (codes "simplify-change") (codes "simc") one_changes (Some Changes) []
+task_row Tee = row_with_short (codes "tee") (codes "t") one_entities (Some Entities) (OutputCount ∷ [])
+task_row TeeChange = row_with_short (codes "tee-change") (codes "tc") one_changes (Some Changes) (OutputCount ∷ [])
+task_row Buffer = row_with_short (codes "buffer") (codes "b") one_entities (Some Entities) (BufferCapacity ∷ [])
+task_row BufferChange =
+    row_with_short (codes "buffer-change") (codes "bc") one_changes (Some Changes) (BufferCapacity ∷ [])
+task_row Spool = row_without_short (codes "spool") one_entities (Some Entities) []
+task_row SpoolChange = row_without_short (codes "spool-change") one_changes (Some Changes) []
 task_row BoundingBox =
-    named (codes "bounding-box") (codes "bb") entities (Some Entities) (Left ∷ Right ∷ Top ∷ Bottom ∷ area_options)
+    row_with_short (codes "bounding-box") (codes "bb") one_entities (Some Entities)
+    (Left ∷ Right ∷ Top ∷ Bottom ∷ area_options)
 task_row BoundingPolygon =
-    named (codes "bounding-polygon") (codes "bp") entities (Some Entities) (File ∷ area_options)
-task_row TagFilter = named (codes "tag-filter") (codes "tf") entities (Some Entities) (Mode ∷ [])
-task_row UsedNode = named (codes "used-node") (codes "un") entities (Some Entities) (IdTrackerType ∷ [])
-task_row UsedWay = named (codes "used-way") (codes "uw") entities (Some Entities) (IdTrackerType ∷ [])
-task_row Sort = named (codes "sort") (codes "s") entities (Some Entities) (SortType ∷ [])
-task_row SortChange = named (codes "sort-change") (codes "sc") changes (Some Changes) []
+    row_with_short (codes "bounding-polygon") (codes "bp") one_entities (Some Entities) (File ∷ area_options)
+task_row TagFilter = row_with_short (codes "tag-filter") (codes "tf") one_entities (Some Entities) (Mode ∷ [])
+task_row UsedNode = row_with_short (codes "used-node") (codes "un") one_entities (Some Entities) (IdTrackerType ∷ [])
+task_row UsedWay = row_with_short (codes "used-way") (codes "uw") one_entities (Some Entities) (IdTrackerType ∷ [])
+task_row Sort = row_with_short (codes "sort") (codes "s") one_entities (Some Entities) (SortType ∷ [])
+task_row SortChange = row_with_short (codes "sort-change") (codes "sc") one_changes (Some Changes) []
+
+-- all tasks, in the order of the catalogue
+abbrev pub all_tasks : List TaskName
+all_tasks =
+    ReadPbf ∷ ReadOpl ∷ ReadOplChange ∷ ReadEmpty ∷ ReadMade ∷ WritePbf ∷ WriteOpl ∷ WriteOplChange ∷ WriteNull
+    ∷ WriteSummary ∷ Merge ∷ MergeChange ∷ AppendChange ∷ ApplyChange ∷ SimplifyChange ∷ Tee ∷ TeeChange ∷ Buffer
+    ∷ BufferChange ∷ Spool ∷ SpoolChange ∷ BoundingBox ∷ BoundingPolygon ∷ TagFilter ∷ UsedNode ∷ UsedWay ∷ Sort
+    ∷ SortChange ∷ []

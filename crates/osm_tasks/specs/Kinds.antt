@@ -73,7 +73,7 @@ is_box left right top bottom = int_le left right && int_le bottom top
 
 -- each number of a kind is in the range that its row has for it, and its box isn't empty
 abbrev pub is_ranged : TaskKind → Bool
-is_ranged (ReadMade count seed) = nat_le count 10000000
+is_ranged (ReadMade count seed) = is_within 0 10000000 count
 is_ranged (WritePbf file batchlimit usedense omitmetadata granularity) =
     is_within 1 32000 batchlimit && is_within 1 1000000 granularity
 is_ranged (Tee flow outputs) = is_within 1 16 outputs
