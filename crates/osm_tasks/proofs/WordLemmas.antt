@@ -1,5 +1,5 @@
 -- One word more of a task: what is left of its faults and of its tests.
-use Rattle.std.proofs.Common.{◌≡◌, ◌<◌, ◌+◌, ℕ, suc, Bool, true, false, List, ◌∷◌, [], ◌++◌, length, take, drop, drop-cons, get_or, Option, None, Some, arith, refl, sym, ap, ◌∙◌, map, filter}
+use Rattle.std.proofs.Common.{◌≡◌, ◌<◌, ◌+◌, ℕ, suc, true, false, List, ◌∷◌, [], ◌++◌, length, take, drop, drop-cons, get_or, Option, None, Some, arith, refl, sym, ap, ◌∙◌, map, filter}
 use Rattle.std.specs.Option.{option_or}
 use Rattle.std.proofs.lemmas.List.{take_more, append-nil, map-append}
 use Rattle.std.proofs.lemmas.List.Elements.{filter_more}

@@ -1,6 +1,6 @@
 -- What the kind of a task says: its row, the streams at its ports, and the ranges of its numbers.
 -- Here ports are lists of streams; the code counts them.
-use Rattle.std.specs.Prelude.{ℕ, ℤ, ◌*◌, nat_abs, List, [], ◌∷◌, replicate, Bool, true, ◌&&◌, nat_le, int_le, Option, Some, None}
+use Rattle.std.specs.Prelude.{ℕ, ℤ, ◌*◌, nat_abs, List, [], replicate, Bool, true, false, ◌&&◌, nat_le, int_le, Option, Some, None}
 use Rattle.osm_entity.specs.Entities.{degree}
 use Rattle.osm_entity.specs.declared.kind.Flow.{Flow}
 use Rattle.osm_entity.specs.declared.kind.Flow.TheVariants.{Entities, Changes}
@@ -9,6 +9,11 @@ use Rattle.osm_tasks.specs.declared.kind.TaskKind.{TaskKind}
 use Rattle.osm_tasks.specs.declared.kind.TaskKind.TheVariants.{ReadPbf, ReadOpl, ReadOplChange, ReadEmpty, ReadMade, WritePbf, WriteOpl, WriteOplChange, WriteNull, WriteSummary, Merge, MergeChange, AppendChange, ApplyChange, SimplifyChange, Tee, Buffer, Spool, BoundingBox, BoundingPolygon, TagFilter, UsedNode, UsedWay, Sort, SortChange}
 use Rattle.osm_tasks.specs.declared.naming.TaskName.{TaskName}
 use Rattle.osm_tasks.specs.declared.naming.TaskName.TheVariants.{ReadPbf as readPbf, ReadOpl as readOpl, ReadOplChange as readOplChange, ReadEmpty as readEmpty, ReadMade as readMade, WritePbf as writePbf, WriteOpl as writeOpl, WriteOplChange as writeOplChange, WriteNull as writeNull, WriteSummary as writeSummary, Merge as merge, MergeChange as mergeChange, AppendChange as appendChange, ApplyChange as applyChange, SimplifyChange as simplifyChange, Tee as tee, TeeChange as teeChange, Buffer as buffer, BufferChange as bufferChange, Spool as spool, SpoolChange as spoolChange, BoundingBox as boundingBox, BoundingPolygon as boundingPolygon, TagFilter as tagFilter, UsedNode as usedNode, UsedWay as usedWay, Sort as sort, SortChange as sortChange}
+
+-- the one task for entities, the other for changes
+abbrev pub task_by_flow : Flow → (entities changes : TaskName) → TaskName
+task_by_flow Entities entities changes = entities
+task_by_flow Changes entities changes = changes
 
 -- the task of the catalogue that a kind is of
 abbrev pub task_of : TaskKind → TaskName
@@ -27,12 +32,9 @@ task_of (MergeChange resolution) = mergeChange
 task_of AppendChange = appendChange
 task_of ApplyChange = applyChange
 task_of SimplifyChange = simplifyChange
-task_of (Tee Entities outputs) = tee
-task_of (Tee Changes outputs) = teeChange
-task_of (Buffer Entities capacity) = buffer
-task_of (Buffer Changes capacity) = bufferChange
-task_of (Spool Entities) = spool
-task_of (Spool Changes) = spoolChange
+task_of (Tee flow outputs) = task_by_flow flow tee teeChange
+task_of (Buffer flow capacity) = task_by_flow flow buffer bufferChange
+task_of (Spool flow) = task_by_flow flow spool spoolChange
 task_of (BoundingBox left right top bottom options) = boundingBox
 task_of (BoundingPolygon file options) = boundingPolygon
 task_of (TagFilter accept kind tests) = tagFilter
@@ -81,3 +83,23 @@ is_ranged (Buffer flow capacity) = is_within 1 65536 capacity
 is_ranged (BoundingBox left right top bottom options) =
     are_degrees left && are_degrees right && are_degrees top && are_degrees bottom && is_box left right top bottom
 is_ranged kind = true
+
+-- the file of a kind, where it has one
+abbrev pub file_of : TaskKind → Option (List ℕ)
+file_of (ReadPbf file) = Some file
+file_of (ReadOpl file) = Some file
+file_of (ReadOplChange file) = Some file
+file_of (WritePbf file batchlimit usedense omitmetadata granularity) = Some file
+file_of (WriteOpl file) = Some file
+file_of (WriteOplChange file) = Some file
+file_of (WriteSummary file) = Some file
+file_of (BoundingPolygon file options) = Some file
+file_of kind = None
+
+-- a kind that writes its file
+abbrev pub writes_file : TaskKind → Bool
+writes_file (WritePbf file batchlimit usedense omitmetadata granularity) = true
+writes_file (WriteOpl file) = true
+writes_file (WriteOplChange file) = true
+writes_file (WriteSummary file) = true
+writes_file kind = false

@@ -16,8 +16,8 @@ use Rattle.osm_tasks.specs.declared.naming.TaskName.{TaskName}
 use Rattle.osm_tasks.specs.Refusals.{box_fault, options_refused, outputs_said}
 
 -- a task is called by its name or its short name
-abbrev pub is_called : List ℕ → TaskName → Bool
-is_called name task = bytes_eq name (task_row task).name || bytes_eq name (task_row task).short
+abbrev pub is_task_called : List ℕ → TaskName → Bool
+is_task_called name task = bytes_eq name (task_row task).name || bytes_eq name (task_row task).short
 
 -- what is wrong with a task of these words: the words, or last an empty box
 abbrev pub said_fault : ℕ → TaskName → List OptionWord → Option TaskError
@@ -43,7 +43,7 @@ resolved_as n words (Some task) = task_unless (said_fault n task words.options) 
 
 -- the task of this number, looked up by its name
 abbrev pub resolved_task : ℕ → TaskWords → Result TaskValue TaskError
-resolved_task n words = resolved_as n words (find (is_called words.name) all_tasks)
+resolved_task n words = resolved_as n words (find (is_task_called words.name) all_tasks)
 
 -- a task and those after it; the first fault counts
 abbrev pub joined_tasks : Result TaskValue TaskError → Result (List TaskValue) TaskError →

@@ -2,7 +2,7 @@
 ghost use Rattle.std.specs.Prelude.{◌≡◌, ◌≢◌, None, Some, Ok, Err, IfOk, IfErr, OnOk};
 ghost use Rattle.std.specs.List.{find};
 ghost use Rattle.osm_tasks.specs.Catalogue.{all_tasks};
-ghost use Rattle.osm_tasks.specs.Resolving.{is_called, resolved, resolved_task, said_fault, task_said};
+ghost use Rattle.osm_tasks.specs.Resolving.{is_task_called, resolved, resolved_task, said_fault, task_said};
 ghost use Rattle.osm_tasks.specs.declared.fault.TaskError.TheVariants.{Memory};
 
 use crate::checking::{box_fault, options_fault};
@@ -89,15 +89,15 @@ fn resolve_task(alloc: Global, task: u32, words: &TaskWords) -> Result<Task, Tas
 }
 
 fn task_named(name: &[u8]) -> Option<TaskName>
-    ensures { result ≡ find (is_called name.now) all_tasks }
+    ensures { result ≡ find (is_task_called name.now) all_tasks }
 {
-    TASKS.iter().copied().find(|task| task.is_called(name))
+    TASKS.iter().copied().find(|task| task.is_task_called(name))
 }
 
 impl TaskName {
     // Whether this is its name or its short name.
-    fn is_called(self, name: &[u8]) -> bool
-        ensures { result ≡ is_called name.now self }
+    fn is_task_called(self, name: &[u8]) -> bool
+        ensures { result ≡ is_task_called name.now self }
     {
         name == self.name() || name == self.short()
     }
