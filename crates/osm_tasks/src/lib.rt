@@ -16,8 +16,6 @@ mod reading;
 mod resolving;
 mod rows;
 mod task;
-#[cfg(test)]
-mod tests;
 
 pub use fault::{Needed, TaskError};
 pub use kind::TaskKind;

@@ -18,7 +18,8 @@ kept false n k is = cc
 pub IsUtf8-cut : (word : List ℕ) (at : ℕ) → Some at ≡ position is_cut_sign word → IsUtf8 word →
     IsUtf8 (take at word) × IsUtf8 (take (length word - (at + 1)) (drop (at + 1) word))
 IsUtf8-cut word at is whole =
-    let found = kept (nat_lt (position_or_len is_cut_sign word) (length word)) (position_or_len is_cut_sign word) at is in
+    let found = kept (nat_lt (position_or_len is_cut_sign word) (length word)) (position_or_len is_cut_sign word)
+    at is in
     let inside : position_or_len is_cut_sign word < length word =
     ltb-true (position_or_len is_cut_sign word) (length word) found.1 in
     let within : at < length word = omega (arith, found.0, inside) in

@@ -29,8 +29,8 @@ pub own-goes_on : (word : List ℕ) (words : List (List ℕ)) → begins_task wo
 own-goes_on word words begins = rw (take_while-cons, begins) refl
 
 -- the options with one word more
-pub options-step : (first at number : ℕ) (words : List (List ℕ)) (word : List ℕ) (options pushed whole : List OptionWord)
-    (option : OptionWord) → drop at words ≡ word ∷ drop (at + 1) words → begins_task word ≡ false →
+pub options-step : (first at number : ℕ) (words : List (List ℕ)) (word : List ℕ)
+    (options pushed whole : List OptionWord) (option : OptionWord) → drop at words ≡ word ∷ drop (at + 1) words → begins_task word ≡ false →
     number ≡ first + at → option ≡ option_at number word → pushed ≡ options ++ option ∷ [] →
     whole ≡ options ++ options_at (first + at) (own_words (drop at words)) →
     whole ≡ pushed ++ options_at (first + (at + 1)) (own_words (drop (at + 1) words))

@@ -1,7 +1,7 @@
 //! Each task by its words: its kind by default and with each option. No clause says that the calls
 //! answer where memory is there.
-use crate::resolving::resolve;
 use osm_entity::{Sequence, Text};
+use osm_tasks::resolve;
 use osm_words::split;
 use std::alloc::Global;
 use std::test::Fail;
