@@ -13,4 +13,6 @@ mod readers;
 #[cfg(test)]
 mod runs;
 #[cfg(test)]
+mod tasks;
+#[cfg(test)]
 mod types;

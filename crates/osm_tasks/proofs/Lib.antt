@@ -1,0 +1,4 @@
+pub mod KindLemmas
+pub mod PipeLemmas
+pub mod ResolveLemmas
+pub mod WordLemmas

@@ -1,0 +1,9 @@
+pub mod Catalogue
+pub mod Given
+pub mod KindSaid
+pub mod Kinds
+pub mod Options
+pub mod Refusals
+pub mod Resolving
+pub mod Tasks
+pub mod Values
