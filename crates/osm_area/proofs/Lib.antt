@@ -1,0 +1,3 @@
+pub mod ParityLemmas
+pub mod PathLemmas
+pub mod SectionLemmas

@@ -1,0 +1,53 @@
+//! Rings. Contracts see a ring as the list of its places.
+ghost use Rattle.std.specs.Prelude.{◌≡◌, IfOk, IsTrue};
+ghost use Rattle.std.specs.List.{list_all};
+ghost use Rattle.osm_area.specs.Edges.{is_ring_place};
+ghost use Rattle.osm_area.specs.Rings.{is_in_ring};
+
+use crate::edge::{edge_counts, path_counts_odd};
+use osm_entity::{NoMemory, Place, Sequence};
+use std::marker::Model;
+
+/// The largest longitude and latitude of a place of a ring, in nanodegrees: 1,000 degrees.
+pub const RING_LIMIT: u64 = 1_000_000_000_000;
+
+/// Places that are joined in their order, and the last with the first.
+#[derive(Debug, Drop)]
+pub struct Ring {
+    corners: Sequence<Place>,
+}
+
+impl Model for Ring {
+    ghost use Rattle.std.specs.Prelude.{List, IsTrue};
+    ghost use Rattle.std.specs.List.{list_all};
+    ghost use Rattle.osm_entity.specs.declared.parts.Place.{Place};
+    ghost use Rattle.osm_area.specs.Edges.{is_ring_place};
+
+    ghost Value = { List Place };
+
+    ghost view = { λ r. r.corners };
+
+    ghost invariant = { λ r. IsTrue (list_all is_ring_place r.corners) };
+}
+
+impl Ring {
+    /// The ring of these places, each of at most 1,000 degrees in size.
+    pub fn new(corners: Sequence<Place>) -> Result<Ring, NoMemory>
+        requires { IsTrue (list_all is_ring_place corners) }
+        ensures { IfOk result (λ ring. ring ≡ corners) }
+    {
+        Ok(Ring { corners })
+    }
+
+    /// Whether a place lies inside. It takes no memory.
+    pub fn holds(&self, place: &Place) -> bool
+        ensures { result ≡ is_in_ring self.now place.now }
+    {
+        let corners = self.corners.as_slice();
+        let [first, ..] = corners else {
+            return false;
+        };
+        let last = &corners[corners.len() - 1];
+        edge_counts(last, first, place) != path_counts_odd(corners, place)
+    }
+}
