@@ -8,7 +8,7 @@ use Rattle.std.proofs.lemmas.List.Sums.{sum_by_more}
 use Rattle.std.proofs.lemmas.Slice.Zip.{length-zip, get_or-zip}
 use Rattle.osm_entity.specs.declared.parts.Place.{Place}
 use Rattle.osm_area.specs.Edges.{counts, is_odd, steps}
-use Rattle.osm_area.specs.Rings.{closed, edges, is_in_ring}
+use Rattle.osm_area.specs.Rings.{edges, is_in_ring}
 use Rattle.osm_area.proofs.ParityLemmas.{odd-more, count_by-more}
 use mathlib.Core.Bool.{beq}
 
@@ -63,18 +63,19 @@ pub take-steps : (path : List Place) (at : ℕ) → 1 ≤ at → length path ≤
 take-steps path at begun within = take_all (at - 1) (steps path) (omega (arith, length-steps path))
 
 -- the last place of a path that begins with a place
-last_from : Place → List Place → Place
+pub last_from : Place → List Place → Place
 last_from place [] = place
 last_from place (next ∷ rest) = last_from next rest
 
 -- it is the one at the end
-last_from-is : (place : Place) (rest : List Place) (d : Place) → last_from place rest ≡ get_or (place ∷ rest) (length rest) d
+last_from-is : (place : Place) (rest : List Place) (d : Place) →
+    last_from place rest ≡ get_or (place ∷ rest) (length rest) d
 unfolding last_from
 last_from-is place [] d = refl
 last_from-is place (next ∷ rest) d = last_from-is next rest d ∙ grind (arith, common_steps)
 
 -- a path with one place more has one edge more
-steps-more : (place : Place) (rest : List Place) (end : Place) →
+pub steps-more : (place : Place) (rest : List Place) (end : Place) →
     zip (place ∷ rest ++ end ∷ []) (rest ++ end ∷ []) ≡ zip (place ∷ rest) rest ++ (last_from place rest, end) ∷ []
 unfolding last_from
 steps-more place [] end = refl
@@ -106,3 +107,14 @@ pub is_in_ring-path : (p : Place) (path : List Place) (d : Place) → 0 < length
     not (beq (counts p (get_or path (length path - 1) d, get_or path 0 d)) (is_odd (count_by (counts p) (steps path))))
 is_in_ring-path p [] d some = absurd (omega arith)
 is_in_ring-path p (first ∷ rest) d some = is_in_ring-closed p first rest d
+
+-- the last place of a path that ends at a place is that place
+pub last_from-append : (place : Place) (rest : List Place) (end : Place) → last_from place (rest ++ end ∷ []) ≡ end
+unfolding last_from
+last_from-append place [] end = refl
+last_from-append place (next ∷ rest) end = last_from-append next rest end
+
+-- a path of one place ends at it
+pub last_from-one : (place : Place) → last_from place [] ≡ place
+unfolding last_from
+last_from-one place = refl

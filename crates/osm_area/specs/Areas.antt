@@ -1,17 +1,14 @@
 -- Places in areas: boxes, and sections that add and subtract rings.
 -- Here the last section that holds the place decides; the code goes through all of them with a flag.
-use Rattle.std.specs.Prelude.{ℤ, Bool, false, ◌&&◌, int_le, List, reverse}
+use Rattle.std.specs.Prelude.{Bool, false, ◌&&◌, List, reverse}
 use Rattle.std.specs.List.{find}
 use Rattle.std.specs.Option.{option_map_or}
 use Rattle.osm_entity.specs.declared.parts.Place.{Place}
+use Rattle.osm_area.specs.Edges.{lies_between}
 use Rattle.osm_area.specs.Rings.{is_in_ring}
 use Rattle.osm_area.specs.declared.area.Section.{Section}
 use Rattle.osm_area.specs.declared.area.Area.{Area}
 use Rattle.osm_area.specs.declared.area.Area.TheVariants.{Box, Rings}
-
--- a number lies between two others, or is one of them
-abbrev pub lies_between : ℤ → ℤ → ℤ → Bool
-lies_between low value high = int_le low value && int_le value high
 
 -- the last section whose ring holds the place says whether it is inside, and where none does it is outside
 abbrev pub sections_hold : List Section → Place → Bool

@@ -1,12 +1,16 @@
 -- Edges between places of rings, and which of them count for a place.
 -- Here the edges of a path are listed and counted; the code turns a flag at each that counts.
-use Rattle.std.specs.Prelude.{ℕ, ◌%◌, ◌^◌, ◌-ℤ◌, ◌*ℤ◌, Bool, ◌&&◌, ◌||◌, ◌==◌, nat_le, int_le, int_lt, unsigned_abs, List, drop}
+use Rattle.std.specs.Prelude.{ℕ, ℤ, ◌%◌, ◌^◌, ◌-ℤ◌, ◌*ℤ◌, Bool, ◌&&◌, ◌||◌, ◌==◌, nat_le, int_le, int_lt, unsigned_abs, List, drop}
 use Rattle.std.specs.List.{zip}
 use Rattle.osm_entity.specs.declared.parts.Place.{Place}
 
 -- a place of a ring lies within 1,000 degrees, in nanodegrees
 abbrev pub is_ring_place : Place → Bool
 is_ring_place place = nat_le (unsigned_abs place.lon) (10 ^ 12) && nat_le (unsigned_abs place.lat) (10 ^ 12)
+
+-- a number lies between two others, or is one of them
+abbrev pub lies_between : ℤ → ℤ → ℤ → Bool
+lies_between low value high = int_le low value && int_le value high
 
 -- an edge from a lower place up to a higher one passes the latitude of a place: from the lower on, and not the higher's
 abbrev pub passes_upward : Place → Place → Place → Bool

@@ -1,3 +1,4 @@
 pub mod Edges
+pub mod Bands
 pub mod Rings
 pub mod Areas

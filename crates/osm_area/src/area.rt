@@ -1,6 +1,7 @@
 //! Areas: a box, or sections that add and subtract rings.
 ghost use Rattle.std.specs.Prelude.{◌≡◌, ◌&&◌};
-ghost use Rattle.osm_area.specs.Areas.{holds, lies_between, sections_hold};
+ghost use Rattle.osm_area.specs.Areas.{holds, sections_hold};
+ghost use Rattle.osm_area.specs.Edges.{lies_between};
 
 use crate::ring::Ring;
 use osm_entity::{Place, Sequence};

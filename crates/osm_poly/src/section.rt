@@ -84,6 +84,7 @@ fn read_points<'a>(
 
 /// Adds the section of a ring.
 fn add_section(
+    alloc: Global,
     sections: &mut Sections,
     add: bool,
     corners: Sequence<Place>,
@@ -93,7 +94,7 @@ fn add_section(
         sections.new ≡ sections.old ++ record { add = add; ring = corners } ∷ []) }
     ensures memory { IfErr result (λ error. error ≡ Memory) }
 {
-    let Ok(ring) = Ring::new(corners) else {
+    let Ok(ring) = Ring::new(alloc, corners) else {
         return Err(PolyError::Memory);
     };
     match sections.push(Section { add, ring }) {
@@ -127,7 +128,7 @@ pub(crate) fn read_sections(alloc: Global, bytes: &[u8], first: u64) -> Result<S
             Ok(step) => step,
             Err(error) => return Err(error),
         };
-        add_section(&mut sections, is_added(name), corners)?;
+        add_section(alloc, &mut sections, is_added(name), corners)?;
         rest = after;
         at = next;
     }

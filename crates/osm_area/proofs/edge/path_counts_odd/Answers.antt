@@ -1,4 +1,4 @@
-use Rattle.std.proofs.Common.{◌≡◌, ◌+◌, ◌≤◌, sym, ◌∙◌, ap, pos, arith}
+use Rattle.std.proofs.Common.{sym, ◌∙◌, ap, pos, arith}
 use Rattle.std.specs.List.{count_by}
 use Rattle.osm_area.specs.Edges.{counts, is_odd}
 use Rattle.osm_area.proofs.PathLemmas.{odd-turned, odd-kept, take-steps}
