@@ -1,12 +1,12 @@
 -- The lines of bytes, from the bytes after the first newline.
-use Rattle.std.proofs.Common.{◌≡◌, ◌<◌, ◌+◌, ◌∷◌, [], ℕ, Bool, true, false, List, length, map, arith, refl, ap, sym, ◌∙◌, drop, cond}
-use Rattle.std.specs.Prelude.{◌==◌, nat_lt, if◌then◌else◌}
-use Rattle.std.specs.List.{slice_split, filter, enumerate_from}
+use Rattle.std.proofs.Common.{◌≡◌, ◌<◌, ◌+◌, ◌∷◌, [], ℕ, List, length, map, arith, refl}
+use Rattle.std.specs.Prelude.{◌==◌}
+use Rattle.std.specs.List.{slice_split, enumerate_from}
 use Rattle.std.proofs.lemmas.Bool.{lt-ltb}
 use Rattle.std.proofs.lemmas.List.{length-map}
 use Rattle.std.proofs.lemmas.List.Splits.{length-slice_split}
 use Rattle.osm_entity.specs.Ascii.{newline}
-use Rattle.osm_poly.specs.Lines.{file_lines, poly_lines, said, said_from, said_after_name, stripped}
+use Rattle.osm_poly.specs.Lines.{file_lines, poly_lines, said, said_from, stripped}
 
 -- a line before others
 file_lines-more : (line : List ℕ) (parts : List (List ℕ)) → 0 < length parts →
@@ -24,8 +24,8 @@ poly_lines-cut bytes line rest is =
     rw is (file_lines-more (stripped line) (map stripped (slice_split (λ b. b == newline) rest)) some)
 
 -- bytes without a newline that hold more than blanks are a line
-pub poly_lines-last : (bytes : List ℕ) → slice_split (λ b. b == newline) bytes ≡ bytes ∷ [] → 0 < length (stripped bytes) →
-    poly_lines bytes ≡ stripped bytes ∷ []
+pub poly_lines-last : (bytes : List ℕ) → slice_split (λ b. b == newline) bytes ≡ bytes ∷ [] →
+    0 < length (stripped bytes) → poly_lines bytes ≡ stripped bytes ∷ []
 poly_lines-last bytes is some = rw (is, lt-ltb 0 (length (stripped bytes)) some) refl
 
 -- blanks alone are none

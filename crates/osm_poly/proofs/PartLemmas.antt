@@ -1,5 +1,5 @@
 -- The parts between END lines, with one line more before them.
-use Rattle.std.proofs.Common.{◌≡◌, ◌<◌, ◌+◌, ◌∷◌, ◌++◌, [], ℕ, Bool, true, false, List, length, arith, refl, ap, sym, ◌∙◌, drop, cond, Option, Some, None, Result, Ok, Err, append_assoc}
+use Rattle.std.proofs.Common.{◌≡◌, ◌<◌, ◌∷◌, ◌++◌, [], ℕ, Bool, true, false, List, length, arith, refl, ap, sym, ◌∙◌, drop, Option, Some, None, Result, Ok, Err, append_assoc}
 use Rattle.std.specs.List.{slice_split, onto_first}
 use Rattle.std.specs.Option.{option_map}
 use Rattle.std.proofs.lemmas.List.{append-nil}
@@ -148,7 +148,8 @@ points-more end next n line corners new lines later read same so_far is other ad
     let here = ring_part-point end n line point.0 (parts later) (length-parts later) point.1 in
     let step : behind corners (ring_part end (parts lines)) ≡
     behind (corners ++ point.0 ∷ []) (ring_part next (parts later)) =
-    rw (is, parts-line n line later other, here, sym same) (behind-more corners point.0 (ring_part end (parts later))) in
+    rw (is, parts-line n line later other, here, sym same)
+    (behind-more corners point.0 (ring_part end (parts later))) in
     so_far ∙ step ∙ ap (λ all. behind all (ring_part next (parts later))) (sym point.2)
 
 -- a line that is no point

@@ -1,6 +1,6 @@
 -- Lines of polygon files, without blanks at both ends, and with their numbers.
 -- Here all lines stand in one list; the code goes from line to line.
-use Rattle.std.specs.Prelude.{ℕ, ◌+◌, ◌-◌, List, [], ◌∷◌, map, length, take, drop, Bool, not, ◌||◌, ◌==◌, nat_lt, if◌then◌else◌}
+use Rattle.std.specs.Prelude.{ℕ, ◌-◌, List, [], ◌∷◌, map, length, take, drop, Bool, not, ◌||◌, ◌==◌, nat_lt, if◌then◌else◌}
 use Rattle.std.specs.List.{slice_split, filter, enumerate_from, position_or_len, suffix_len}
 use Rattle.osm_entity.specs.Ascii.{newline, tab, space}
 

@@ -19,7 +19,6 @@ const STEPS: &[u8] = b"a\nx\n0 0\n2 0\n2 1\n1 1\n1 2\n0 2\nEND\nEND\n";
 #[test]
 fn files_say_what_the_tables_say(rt: HostRuntime) -> Result<(), Fail> {
     let alloc = rt.alloc();
-    // Degrees are tenths here.
     let places = [
         (HOLE, 5, 5, true),
         (HOLE, 3, 3, false),
@@ -65,7 +64,7 @@ fn files_say_what_the_tables_say(rt: HostRuntime) -> Result<(), Fail> {
         ),
     ];
     for (file, east, north, inside) in places {
-        let held = holds(alloc, file, east * 100_000_000, north * 100_000_000);
+        let held = holds(alloc, file, east, north);
         assert_eq!(rt; held, Some(inside));
     }
     let files = [
@@ -108,9 +107,14 @@ fn files_say_what_the_tables_say(rt: HostRuntime) -> Result<(), Fail> {
     Ok(())
 }
 
-fn holds(alloc: Global, file: &[u8], lon: i64, lat: i64) -> Option<bool> {
+/// Whether the area of a file holds a place, in tenths of degrees.
+fn holds(alloc: Global, file: &[u8], east: i8, north: i8) -> Option<bool> {
+    let place = Place {
+        lon: i64::from(east) * 100_000_000,
+        lat: i64::from(north) * 100_000_000,
+    };
     match read_poly(alloc, file) {
-        Ok(area) => Some(area.contains(&Place { lon, lat })),
+        Ok(area) => Some(area.contains(&place)),
         Err(_) => None,
     }
 }

@@ -1,4 +1,4 @@
-use Rattle.std.proofs.Common.{◌≡◌, ◌∙◌, rules, length, ap, sym, arith}
+use Rattle.std.proofs.Common.{◌≡◌, ◌∙◌, rules, length, ap, arith}
 use Rattle.std.proofs.lemmas.Grind.{common_steps}
 use Rattle.osm_poly.specs.Lines.{poly_lines, stripped}
 use Rattle.osm_poly.proofs.LineLemmas.{poly_lines-cut, said-passed}
@@ -15,7 +15,8 @@ loop-line-preserved c =
     record {
       said =
           c.loop-line.invariant.said ∙
-          said-passed c.loop-line.number c.loop-line.rest.now (stripped c.in-Some.line.now) (poly_lines c.in-Some.more.now)
+          said-passed c.loop-line.number c.loop-line.rest.now (stripped c.in-Some.line.now)
+          (poly_lines c.in-Some.more.now)
           cut nothing;
       same = omega (arith, c.loop-line.invariant.same, ap (λ lines. length lines) cut);
       fits = omega (arith, c.loop-line.invariant.fits, shorter);

@@ -1,4 +1,4 @@
-use Rattle.std.proofs.Common.{◌≡◌, ◌+◌, ◌∙◌, length, sym, arith}
+use Rattle.std.proofs.Common.{◌+◌, ◌∙◌, length, sym, arith}
 use Rattle.osm_poly.specs.Lines.{poly_lines, said_from}
 use Rattle.osm_poly.specs.Sections.{parts_from, ring_part}
 use Rattle.osm_poly.proofs.PartLemmas.{drop-parts_line, points-done, points-more}

@@ -1,4 +1,4 @@
-use Rattle.std.proofs.Common.{◌≡◌, ◌+◌, ◌∙◌, length, sym, arith}
+use Rattle.std.proofs.Common.{◌+◌, ◌∙◌, length, sym, arith}
 use Rattle.osm_poly.specs.Lines.{poly_lines, said_from}
 use Rattle.osm_poly.specs.Sections.{parts_from, poly_sections}
 use Rattle.osm_poly.proofs.PartLemmas.{sections-done, sections-more}
@@ -25,8 +25,9 @@ loop-step-preserved c =
           c.in-Ok.step.2 c.in-Ok.step.0.now c.read_points.new.corners c.loop-step.sections
           (said_from c.loop-step.at c.loop-step.rest.now) (said_from (c.in-Ok.step.2 + 1) c.in-Ok.step.1.now)
           (said_from after.1 after.0.now)
-          (poly_sections (c.args.first + length (poly_lines c.args.bytes.now)) (parts_from c.args.first c.args.bytes.now))
-          c.in-Ok.ensures.same points.same c.loop-step.invariant.read c.in-Ok.ensures.said
+          (poly_sections (c.args.first + length (poly_lines c.args.bytes.now))
+          (parts_from c.args.first c.args.bytes.now)) c.in-Ok.ensures.same points.same
+          c.loop-step.invariant.read c.in-Ok.ensures.said
           (sym c.ends.ensures ∙ c.if-ends.false) points.ok points.rest);
       same = c.loop-step.invariant.same ∙ c.in-Ok.ensures.same ∙ points.same;
       fits = omega (arith, c.loop-step.invariant.fits, c.in-Ok.ensures.fits, points.fits);
