@@ -1,0 +1,301 @@
+//! Spools: a queue of items that grows, and beside it a slot for the end.
+//!
+//! The end stands in the slot with the number of items before it, and is taken after that many.
+//! The slot is made with the spool, so the end takes no memory.
+ghost use Rattle.std.specs.Prelude.{◌≡◌, ◌++◌, ◌∷◌, [], true, false, List, None, IfOk, MatchOption, MatchResult};
+ghost use Rattle.crossbeam_queue.specs.Passes.{IsPassOf, IsSamePass};
+ghost use Rattle.crossbeam_queue.specs.SegTies.{IsSegPassOf};
+ghost use Rattle.osm_entity.specs.Items.{ItemValue};
+ghost use Rattle.osm_entity.specs.Ports.{has_end};
+ghost use Rattle.osm_entity.specs.Prefixes.{IsPrefix};
+ghost use Rattle.osm_entity.specs.declared.stream.Message.TheVariants as Says;
+ghost use Rattle.osm_pipe.specs.Rule.{hand};
+ghost use Rattle.osm_pipe.specs.Spool.{spool_half, items_hand, ends_hand, kept_of};
+ghost use Rattle.osm_pipe.specs.declared.store.Last.{Last};
+
+use crate::bell::Bell;
+use crate::channels::TRIES;
+use crate::rule::{Halves, Hand, Sends, Takes, Unlimited, Whole};
+use crate::store::{Last, Queue, Slot, Store};
+use crossbeam_queue::{Pass, SegPass};
+use osm_entity::{End, Item, Message, NoMemory};
+use std::alloc::Global;
+use std::marker::Model;
+use std::sync::{Arc, Wait};
+use std::thread;
+
+type ItemPass = SegPass<Item, Hand<Item>>;
+
+type EndPass = Pass<Last, Hand<Last>>;
+
+/// The giving half of a spool, seen as the spool and what was sent.
+#[derive(Drop)]
+pub struct SpoolGiver {
+    store: Arc<Store>,
+    items: ItemPass,
+    ends: EndPass,
+    count: u64,
+}
+
+impl Model for SpoolGiver {
+    ghost use Rattle.std.specs.Arc.{arc_value};
+    ghost use Rattle.crossbeam_queue.specs.Passes.{IsPassOf};
+    ghost use Rattle.crossbeam_queue.specs.SegTies.{IsSegPassOf};
+    ghost use Rattle.osm_pipe.specs.Spool.{SpoolValue, spool_half, spool_of, spooled, items_hand, ends_hand, GivesSpool};
+
+    ghost Value = { SpoolValue };
+
+    ghost view = { λ g. spool_half (spool_of g.items g.ends) (spooled (items_hand g.items).sent (ends_hand g.ends).sent) };
+
+    ghost invariant = { λ g. IsSegPassOf (arc_value g.store).queue g.items × IsPassOf (arc_value g.store).slot g.ends × GivesSpool (items_hand g.items) (ends_hand g.ends) g.count };
+}
+
+/// The taking half of a spool, seen as the spool and what was taken.
+#[derive(Drop)]
+pub struct SpoolTaker {
+    store: Arc<Store>,
+    items: ItemPass,
+    ends: EndPass,
+    count: u64,
+    last: Option<Last>,
+    has_ended: bool,
+}
+
+impl Model for SpoolTaker {
+    ghost use Rattle.std.specs.Arc.{arc_value};
+    ghost use Rattle.crossbeam_queue.specs.Passes.{IsPassOf};
+    ghost use Rattle.crossbeam_queue.specs.SegTies.{IsSegPassOf};
+    ghost use Rattle.osm_pipe.specs.Spool.{SpoolValue, spool_half, spool_of, spooled, shown, items_hand, ends_hand, TakesSpool};
+
+    ghost Value = { SpoolValue };
+
+    ghost view = { λ t. spool_half (spool_of t.items t.ends) (spooled (items_hand t.items).taken (shown t.has_ended (ends_hand t.ends).taken)) };
+
+    ghost invariant = { λ t. IsSegPassOf (arc_value t.store).queue t.items × IsPassOf (arc_value t.store).slot t.ends × TakesSpool (items_hand t.items) (ends_hand t.ends) t.count t.last t.has_ended };
+}
+
+/// A new spool.
+#[tactic(auto, using(crate::proofs::RuleLemmas::begins, crate::proofs::RuleLemmas::splits))]
+pub fn spool_halves(alloc: Global) -> Result<(SpoolGiver, SpoolTaker), NoMemory>
+    ensures { IfOk result (λ r. (r.0 ≡ spool_half r.0.pipe []) × (r.1 ≡ spool_half r.0.pipe [])) }
+{
+    let Ok((queue, mut items)) = Queue::with_rule(alloc) else {
+        return Err(NoMemory);
+    };
+    let Ok((slot, mut ends)) = Slot::ruled(alloc, 1) else {
+        queue.destroy();
+        return Err(NoMemory);
+    };
+    let other_items = queue.another::<Halves<Unlimited>>(&mut items);
+    let other_ends = slot.another::<Halves<Unlimited>>(&mut ends);
+    let store = Store {
+        queue,
+        slot,
+        bell: Bell::new(),
+    };
+    let Ok(store) = Arc::new(alloc, store) else {
+        return Err(NoMemory);
+    };
+    let Ok(other_store) = Arc::try_clone(&store) else {
+        return Err(NoMemory);
+    };
+    let giver = SpoolGiver {
+        store,
+        items,
+        ends,
+        count: 0,
+    };
+    let taker = SpoolTaker {
+        store: other_store,
+        items: other_items,
+        ends: other_ends,
+        count: 0,
+        last: None,
+        has_ended: false,
+    };
+    Ok((giver, taker))
+}
+
+impl SpoolGiver {
+    /// Sends an item. At `Err` there was no memory, or 2^64 - 1 items were sent, and the item
+    /// comes back.
+    #[tactic(auto, using(crate::proofs::RuleLemmas::sends, crate::proofs::RuleLemmas::within_any, crate::proofs::SpoolLemmas::no_ends, crate::proofs::SpoolLemmas::spooled_item))]
+    pub fn push<R: Wait>(&mut self, rt: &R, item: Item) -> Result<(), Item>
+        requires before_end { has_end self.old.list ≡ false }
+        ensures { MatchResult result (λ _. self.new ≡ spool_half self.old.pipe (self.old.list ++ Says.Item item ∷ [])) (λ back. (back ≡ item) × (self.new ≡ self.old)) }
+    {
+        let half = &mut *self;
+        if half.count == u64::MAX {
+            return Err(item);
+        }
+        match half
+            .store
+            .queue
+            .push_as::<Sends, R>(rt, &mut half.items, item)
+        {
+            Ok(()) => {
+                half.count += 1;
+                half.store.bell.ring();
+                Ok(())
+            }
+            Err(back) => Err(back),
+        }
+    }
+
+    /// Sends the end.
+    #[tactic(auto, using(crate::proofs::RuleLemmas::sends, crate::proofs::RuleLemmas::within_any, crate::proofs::RuleLemmas::holds_less, crate::proofs::SpoolLemmas::no_ends, crate::proofs::SpoolLemmas::spooled_end))]
+    pub fn close<R: Wait>(&mut self, rt: &R, end: End)
+        requires before_end { has_end self.old.list ≡ false }
+        ensures { self.new ≡ spool_half self.old.pipe (self.old.list ++ Says.End end ∷ []) }
+    {
+        let half = &mut *self;
+        let last = Last {
+            end,
+            count: half.count,
+        };
+        match half
+            .store
+            .slot
+            .push_as::<Sends, R>(rt, &mut half.ends, last)
+        {
+            Ok(()) => half.store.bell.ring(),
+            // The slot was never filled.
+            Err(_) => unreachable!(),
+        }
+    }
+}
+
+/// Looks into the slot, unless its end was found before.
+#[tactic(auto, using(crate::proofs::SpoolLemmas::found))]
+fn look<R: Wait>(rt: &R, slot: &Slot, ends: &mut EndPass, last: Option<Last>) -> Option<Last>
+    requires seat { IsPassOf slot.now ends.old }
+    requires takes { ends_hand ends.old ≡ hand false true None [] (kept_of last) }
+    ensures seat { IsSamePass ends.old ends.new }
+    ensures takes { ends_hand ends.new ≡ hand false true None [] (kept_of result) }
+{
+    match last {
+        Some(_) => last,
+        None => slot.pop_as::<Takes, R>(rt, ends),
+    }
+}
+
+impl SpoolTaker {
+    /// Takes the item sent first of those that are left, if one is there.
+    #[tactic(auto, using(crate::proofs::RuleLemmas::takes, crate::proofs::SpoolLemmas::unshown, crate::proofs::SpoolLemmas::spooled_item))]
+    fn try_item<R: Wait>(&mut self, rt: &R) -> Option<Item>
+        ensures { MatchOption result (self.new ≡ self.old) (λ item. self.new ≡ spool_half self.old.pipe (self.old.list ++ Says.Item item ∷ [])) }
+    {
+        let half = &mut *self;
+        if half.has_ended {
+            return None;
+        }
+        // No more items than this are sent.
+        if half.count == u64::MAX {
+            return None;
+        }
+        match half.store.queue.pop_as::<Takes, R>(rt, &mut half.items) {
+            Some(item) => {
+                half.count += 1;
+                Some(item)
+            }
+            None => None,
+        }
+    }
+
+    /// Takes the end, if all items before it were taken.
+    #[tactic(auto, using(crate::proofs::SpoolLemmas::takes_end, crate::proofs::SpoolLemmas::takes_none, crate::proofs::SpoolLemmas::shown_end, crate::proofs::SpoolLemmas::shown_none))]
+    fn try_end<R: Wait>(&mut self, rt: &R) -> Option<End>
+        ensures { MatchOption result (self.new ≡ self.old) (λ end. self.new ≡ spool_half self.old.pipe (self.old.list ++ Says.End end ∷ [])) }
+    {
+        let half = &mut *self;
+        if half.has_ended {
+            return None;
+        }
+        half.last = look(rt, &half.store.slot, &mut half.ends, half.last);
+        match half.last {
+            Some(last) if last.count == half.count => {
+                half.has_ended = true;
+                Some(last.end)
+            }
+            _ => None,
+        }
+    }
+
+    /// Takes the message sent first of those that are left, if one is there.
+    fn try_receive<R: Wait>(&mut self, rt: &R) -> Option<Message>
+        ensures { MatchOption result (self.new ≡ self.old) (λ message. self.new ≡ spool_half self.old.pipe (self.old.list ++ message ∷ [])) }
+    {
+        if let Some(item) = self.try_item(rt) {
+            return Some(Message::Item(item));
+        }
+        match self.try_end(rt) {
+            Some(end) => Some(Message::End(end)),
+            None => None,
+        }
+    }
+
+    /// Takes a message, which waits while there is none.
+    pub fn receive<R: Wait>(&mut self, rt: &R) -> Message
+        ensures { self.new ≡ spool_half self.old.pipe (self.old.list ++ result ∷ []) }
+    {
+        for _ in 0..TRIES {
+            if let Some(message) = self.try_receive(rt) {
+                return message;
+            }
+            thread::yield_now();
+        }
+        for _ in rt.forever() {
+            let heard = self.store.bell.heard();
+            if let Some(message) = self.try_receive(rt) {
+                return message;
+            }
+            self.store.bell.sleep(rt, heard);
+        }
+        unreachable!()
+    }
+}
+
+/// Joins the two passes of the items: what was sent is what was taken and then what is left.
+fn join_items<R: Wait>(rt: &R, queue: &Queue, mut giver: ItemPass, taker: ItemPass)
+    requires seats { IsSegPassOf queue.now giver × IsSegPassOf queue.now taker }
+    requires sends { (items_hand giver).sends ≡ true }
+    requires takes { (items_hand taker).takes ≡ true }
+    ensures { (left : List ItemValue) × ((items_hand giver).sent ≡ (items_hand taker).taken ++ left) }
+{
+    queue.absorb::<Halves<Unlimited>>(&mut giver, taker);
+    queue.len_as::<Whole, R>(rt, &mut giver);
+}
+
+/// Joins the two passes of the slot.
+fn join_ends(slot: &Slot, mut giver: EndPass, taker: EndPass)
+    requires seats { IsPassOf slot.now giver × IsPassOf slot.now taker }
+    requires sends { (ends_hand giver).sends ≡ true }
+    requires takes { (ends_hand taker).takes ≡ true }
+    ensures { (left : List Last) × ((ends_hand giver).sent ≡ (ends_hand taker).taken ++ left) }
+{
+    slot.absorb::<Halves<Unlimited>>(&mut giver, taker);
+    slot.learn_as::<Whole>(&mut giver);
+}
+
+/// Joins the two halves of a spool: what was taken is a prefix of what was sent.
+pub fn spool_meets<R: Wait>(rt: &R, sent: SpoolGiver, taken: SpoolTaker)
+    requires { sent.pipe ≡ taken.pipe }
+    ensures { IsPrefix taken.list sent.list }
+{
+    let SpoolGiver {
+        store,
+        items,
+        ends,
+        count: _,
+    } = sent;
+    let SpoolTaker {
+        store: _,
+        items: other_items,
+        ends: other_ends,
+        count: _,
+        last: _,
+        has_ended: _,
+    } = taken;
+    join_items(rt, &store.queue, items, other_items);
+    join_ends(&store.slot, ends, other_ends);
+}
