@@ -31,18 +31,22 @@ nothing_after (One i ∷ taken) left last ended = nothing_after taken left last 
 nothing_after (Last e ∷ []) left last ended = last
 nothing_after (Last e ∷ m ∷ taken) left last ended = cc
 
-all_taken : (taken sent left : List Message) → sent ≡ taken ++ left → EndsLast sent → has_end taken ≡ true → taken ≡ sent
+-- all of it was taken where its end was
+all_taken : (taken sent left : List Message) → sent ≡ taken ++ left → EndsLast sent →
+    has_end taken ≡ true → taken ≡ sent
 all_taken taken sent left joined last ended =
     let none : left ≡ [] = nothing_after taken left (subst EndsLast joined last) ended in
     sym (joined ∙ ap (λ l. taken ++ l) none ∙ append-nil taken)
 
 -- a prefix under other names
-pub prefix_of : (first all taken sent : List Message) → IsPrefix first all → first ≡ taken → all ≡ sent → IsPrefix taken sent
+pub prefix_of : (first all taken sent : List Message) → IsPrefix first all → first ≡ taken → all ≡ sent →
+    IsPrefix taken sent
 prefix_of first all taken sent is same_taken same_sent =
     subst (λ (l : List Message × List Message). IsPrefix l.0 l.1) (λ i. (same_taken i, same_sent i)) is
 
 -- the halves of one pipe meet
-pub halves_meet : (taken sent : List Message) → IsPrefix taken sent → has_end sent ≡ true → EndsLast sent → Meets taken sent
+pub halves_meet : (taken sent : List Message) → IsPrefix taken sent → has_end sent ≡ true → EndsLast sent →
+    Meets taken sent
 halves_meet taken sent prefix closed last = record {
   prefix = prefix;
   whole = λ ended. all_taken taken sent prefix.rest prefix.joined last ended;

@@ -13,6 +13,7 @@ within_less : (limit : Option ℕ) (n m : ℕ) → m ≤ n → IsWithin limit n 
 within_less None n m less is = tt
 within_less (Some most) n m less is = omega arith
 
+-- nothing is within any limit
 within_none : (limit : Option ℕ) → IsWithin limit 0
 within_none None = tt
 within_none (Some most) = omega arith
@@ -25,11 +26,14 @@ within_full limit n is = let own : n ≤ n = omega arith in subst (λ l. IsWithi
 pub within_any : (limit : Option ℕ) (n : ℕ) → limit ≡ None → IsWithin limit n
 within_any limit n is = subst (λ l. IsWithin l n) (sym is) tt
 
+-- one message more is within the places of a queue that was not full
 one_more : {T : Type 0} (items : List T) (x : T) (n : ℕ) → length items < n → length (items ++ x ∷ []) ≤ n
 one_more items x n short = let more = length-append items (x ∷ []) in omega arith
 
 module _ {T : Type 0} where
-  at_end : (l : List (Hand T)) (a b : Hand T) (j : ℕ) → get_elem? l j ≢ some b → get_elem? (l ++ a ∷ []) j ≡ some b → j ≡ length l
+  -- what stands only in the longer list stands at its end
+  at_end : (l : List (Hand T)) (a b : Hand T) (j : ℕ) → get_elem? l j ≢ some b →
+      get_elem? (l ++ a ∷ []) j ≡ some b → j ≡ length l
   at_end [] a b zero n e = refl
   at_end [] a b (suc j) n e = absurd (some-ne-none b (sym e))
   at_end (x ∷ xs) a b zero n e = absurd (n e)
@@ -39,6 +43,7 @@ module _ {T : Type 0} where
   abbrev EachKnows : (ℕ → Hand T → Type 0) → List (Hand T) → Type 0
   EachKnows F views = (port : ℕ) (v : Hand T) → get_elem? views port ≡ some v → F port v
 
+  -- one half knows more, and the others what they knew
   each-set : (F : ℕ → Hand T → Type 0) (views : List (Hand T)) (port : ℕ) (w : Hand T) → F port w →
       ((j : ℕ) (u : Hand T) → j ≢ port → get_elem? views j ≡ some u → F j u) → EachKnows F (set views port w)
   each-set F views port w mine others j u e = ⊎_elim
@@ -52,12 +57,14 @@ module _ {T : Type 0} where
     taker = 0;
     whole = first;
     way = record { joined = refl; within = omega arith };
-    known = each-set (Knows 0 0 first) (first ∷ []) 0 first (record { giving = λ _. (refl, refl, refl); taking = λ _. (refl, refl) })
+    known = each-set (Knows 0 0 first) (first ∷ []) 0 first
+        (record { giving = λ _. (refl, refl, refl); taking = λ _. (refl, refl) })
         (λ j u other e. absurd (other (at_end [] first u j (λ x. some-ne-none u (sym x)) e)));
   }
 
   -- a message is sent
-  pub sends : (n port : ℕ) (v : Hand T) (x : T) → v.sends ≡ true → IsWithin v.limit n → Pushes IsInOrder n port v x (HasSent v x)
+  pub sends : (n port : ℕ) (v : Hand T) (x : T) → v.sends ≡ true → IsWithin v.limit n →
+      Pushes IsInOrder n port v x (HasSent v x)
   sends n port v x may fits items views short h at =
       let w : Hand T = hand v.sends v.takes v.limit (v.sent ++ x ∷ []) v.taken in
       let mine = h.known port v at in
@@ -69,11 +76,15 @@ module _ {T : Type 0} where
         whole = whole;
         way = record {
           joined = ap (λ l. l ++ x ∷ []) h.way.joined ∙ append_assoc h.whole.taken items (x ∷ []);
-          within = subst (λ l. IsWithin l (length (items ++ x ∷ []))) own.1 (within_less v.limit n (length (items ++ x ∷ [])) (one_more items x n short) fits);
+          within = subst (λ l. IsWithin l (length (items ++ x ∷ []))) own.1
+              (within_less v.limit n (length (items ++ x ∷ [])) (one_more items x n short) fits);
         };
         known = each-set (Knows h.giver h.taker whole) views port w
             (record { giving = λ _. (own.0, own.1, ap (λ l. l ++ x ∷ []) own.2); taking = mine.taking })
-            (λ j u other e. record { giving = λ p. absurd (other (((h.known j u e).giving p).0 ∙ sym own.0)); taking = (h.known j u e).taking });
+            (λ j u other e. record {
+              giving = λ p. absurd (other (((h.known j u e).giving p).0 ∙ sym own.0));
+              taking = (h.known j u e).taking;
+            });
       } in
       (w, new, refl)
 
@@ -94,7 +105,10 @@ module _ {T : Type 0} where
         };
         known = each-set (Knows h.giver h.taker whole) views port w
             (record { giving = mine.giving; taking = λ _. (own.0, ap (λ l. l ++ x ∷ []) own.1) })
-            (λ j u other e. record { giving = (h.known j u e).giving; taking = λ p. absurd (other (((h.known j u e).taking p).0 ∙ sym own.0)) });
+            (λ j u other e. record {
+              giving = (h.known j u e).giving;
+              taking = λ p. absurd (other (((h.known j u e).taking p).0 ∙ sym own.0));
+            });
       } in
       (w, new, refl)
 
@@ -107,23 +121,31 @@ module _ {T : Type 0} where
       let mine = h.known port v at in
       let give = mine.giving (ap (λ (x : Hand T). x.sends) is) in
       let take = mine.taking (ap (λ (x : Hand T). x.takes) is) in
-      let empty : IsWithin (Some 0) (length items) = subst (λ l. IsWithin l (length items)) (sym give.1 ∙ ap (λ (x : Hand T). x.limit) is) h.way.within in
+      let nought : h.whole.limit ≡ Some 0 = sym give.1 ∙ ap (λ (x : Hand T). x.limit) is in
+      let empty : IsWithin (Some 0) (length items) = subst (λ l. IsWithin l (length items)) nought h.way.within in
       let none : length items ≡ 0 = omega arith in
       let whole : Hand T = hand h.whole.sends h.whole.takes limit h.whole.sent h.whole.taken in
       let cut : List (Hand T) = set views port left in
-      let Old : ℕ → Hand T → Type 0 = λ j u. (u.sends ≡ true → (j ≡ h.giver) × (u.limit ≡ limit) × (u.sent ≡ h.whole.sent)) × (u.takes ≢ true) in
-      let old : EachKnows Old cut = each-set Old views port left ((λ _. (give.0, refl, give.2)), λ p. true≢false (sym p))
-      (λ j u other e. ((λ p. absurd (other (((h.known j u e).giving p).0 ∙ sym give.0))), λ p. other (((h.known j u e).taking p).0 ∙ sym take.0))) in
+      let Old : ℕ → Hand T → Type 0 = λ j u.
+      (u.sends ≡ true → (j ≡ h.giver) × (u.limit ≡ limit) × (u.sent ≡ h.whole.sent)) × (u.takes ≢ true) in
+      let old : EachKnows Old cut = each-set Old views port left
+      ((λ _. (give.0, refl, give.2)), λ p. true≢false (sym p))
+      (λ j u other e. let was = h.known j u e in
+      ((λ p. absurd (other ((was.giving p).0 ∙ sym give.0))), λ p. other ((was.taking p).0 ∙ sym take.0))) in
       record {
         giver = h.giver;
         taker = length cut;
         whole = whole;
         way = record { joined = h.way.joined; within = subst (λ n. IsWithin limit n) (sym none) (within_none limit) };
         known = λ j u e. ⊎_elim
-            (λ (x : get_elem? cut j ≡ some u). record { giving = (old j u x).0; taking = λ p. absurd ((old j u x).1 p) })
+            (λ (x : get_elem? cut j ≡ some u). let was = old j u x in
+            record { giving = was.0; taking = λ p. absurd (was.1 p) })
             (λ (same : right ≡ u). record {
               giving = λ p. absurd (true≢false (sym (ap (λ (y : Hand T). y.sends) same ∙ p)));
-              taking = λ p. (at_end cut right u j (λ x. (old j u x).1 p) e, ap (λ (y : Hand T). y.taken) (sym same) ∙ take.1);
+              taking = λ p. (
+                at_end cut right u j (λ x. (old j u x).1 p) e,
+                ap (λ (y : Hand T). y.taken) (sym same) ∙ take.1,
+              );
             })
             (at_snoc cut right u j e);
       }
@@ -135,19 +157,25 @@ module _ {T : Type 0} where
       let both : Hand T = hand true true v.limit v.sent u.taken in
       let spent : Hand T = hand false false None [] [] in
       let joined : List (Hand T) = set views port both in
-      let was : get_elem? views other ≡ some u = ⊎_elim (λ x. absurd (two x.0)) (λ x. x.1) (at_set views port other both u at') in
+      let was : get_elem? views other ≡ some u =
+      ⊎_elim (λ x. absurd (two x.0)) (λ x. x.1) (at_set views port other both u at') in
       let give = (h.known port v at).giving a in
       let take = (h.known other u was).taking b in
       let Now : ℕ → Hand T → Type 0 = λ j y. j ≢ other → Knows h.giver port h.whole j y in
-      let now : EachKnows Now joined = each-set Now views port both (λ _. record { giving = λ _. give; taking = λ _. (refl, take.1) })
-      (λ j y _ e apart. record { giving = (h.known j y e).giving; taking = λ p. absurd (apart (((h.known j y e).taking p).0 ∙ sym take.0)) }) in
+      let now : EachKnows Now joined = each-set Now views port both
+      (λ _. record { giving = λ _. give; taking = λ _. (refl, take.1) })
+      (λ j y _ e apart. record {
+        giving = (h.known j y e).giving;
+        taking = λ p. absurd (apart (((h.known j y e).taking p).0 ∙ sym take.0));
+      }) in
       record {
         giver = h.giver;
         taker = port;
         whole = h.whole;
         way = h.way;
         known = each-set (Knows h.giver port h.whole) joined other spent
-            (record { giving = λ p. absurd (true≢false (sym p)); taking = λ p. absurd (true≢false (sym p)) }) (λ j y apart e. now j y e apart);
+            (record { giving = λ p. absurd (true≢false (sym p)); taking = λ p. absurd (true≢false (sym p)) })
+            (λ j y apart e. now j y e apart);
       }
 
   -- the joined pass knows what is on the way
@@ -158,14 +186,16 @@ module _ {T : Type 0} where
   }
 
   -- no more is on the way than was sent
-  pub holds_less : (port : ℕ) (v : Hand T) → v.sends ≡ true → Learns IsInOrder port v (λ items. length items ≤ length v.sent)
+  pub holds_less : (port : ℕ) (v : Hand T) → v.sends ≡ true →
+      Learns IsInOrder port v (λ items. length items ≤ length v.sent)
   holds_less port v a items views h at = let give = (h.known port v at).giving a in
       let both : length v.sent ≡ length (h.whole.taken ++ items) = ap length (give.2 ∙ h.way.joined) in
       let parts = length-append h.whole.taken items in
       omega arith
 
   -- what was sent and is not yet taken is within the limit
-  pub left_within : (v : Hand T) (items : List T) → IsOnTheWay v items → IsWithin v.limit (length v.sent - length v.taken)
+  pub left_within : (v : Hand T) (items : List T) → IsOnTheWay v items →
+      IsWithin v.limit (length v.sent - length v.taken)
   left_within v items way =
       let both : length v.sent ≡ length (v.taken ++ items) = ap length way.joined in
       let parts = length-append v.taken items in

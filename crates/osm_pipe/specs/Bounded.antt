@@ -1,6 +1,6 @@
 -- The halves of a bounded pipe, as their callers see them.
 -- Here a half is the pipe and the whole list that it sent or took; the code keeps neither.
-use Rattle.std.specs.Prelude.{◌≡◌, ℕ, List, [], Option, Some, true, false}
+use Rattle.std.specs.Prelude.{ℕ, List, [], ◌∷◌, ◌++◌, Option}
 use Rattle.atomic_table.specs.Seated.{TableId}
 use Rattle.atomic_table.specs.declared.badge.Badge.{Badge}
 use Rattle.crossbeam_channel.specs.Claims.{Pass, view}
@@ -22,6 +22,10 @@ pub record BoundedValue : Type 0 where
 -- a half of a bounded pipe, of its parts
 abbrev pub bounded_half : BoundedId → List Message → BoundedValue
 bounded_half pipe list = record { pipe = pipe; list = list }
+
+-- a half of a bounded pipe, and one message more
+abbrev pub bounded_more : BoundedValue → Message → BoundedValue
+bounded_more h message = bounded_half h.pipe (h.list ++ message ∷ [])
 
 -- what a pass knows
 abbrev pub hand_of : Pass Message (Hand Message) → Hand Message

@@ -1,6 +1,6 @@
 -- Pipes, as their callers see them.
 -- Here a half is the pipe and the whole list of messages that it sent or took; the code keeps neither.
-use Rattle.std.specs.Prelude.{◌≡◌, ℕ, true, List, Option, None}
+use Rattle.std.specs.Prelude.{◌≡◌, ℕ, true, List, [], ◌∷◌, ◌++◌, Option, None}
 use Rattle.osm_entity.specs.Ports.{has_end, EndsLast}
 use Rattle.osm_entity.specs.Prefixes.{IsPrefix}
 use Rattle.osm_entity.specs.declared.stream.Message.{Message}
@@ -30,6 +30,10 @@ pub record HalfValue : Type 0 where
 abbrev pub half : PipeId → List Message → HalfValue
 half pipe list = record { pipe = pipe; list = list }
 
+-- a half of a pipe, and one message more
+abbrev pub half_more : HalfValue → Message → HalfValue
+half_more h message = half h.pipe (h.list ++ message ∷ [])
+
 -- a giving half, whatever its kind
 abbrev pub giver_half : GiverWay → HalfValue
 giver_half (Gives.Bounded giver) = half (OnBounded giver.pipe) giver.list
@@ -40,7 +44,7 @@ abbrev pub taker_half : TakerWay → HalfValue
 taker_half (Takes.Bounded taker) = half (OnBounded taker.pipe) taker.list
 taker_half (Takes.Spool taker) = half (OnSpool taker.pipe) taker.list
 
--- what was taken of a pipe is a prefix of what was sent, whole where it has its end, and what was sent ends with its end
+-- what was taken is a prefix of what was sent, all of it where its end was taken; what was sent ends with its end
 pub record Meets (taken sent : List Message) : Type 0 where
   pub prefix : IsPrefix taken sent
   pub whole : has_end taken ≡ true → taken ≡ sent

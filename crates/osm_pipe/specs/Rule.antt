@@ -1,6 +1,6 @@
 -- What is on the way in a queue between two halves.
 -- Here what was sent and taken are whole lists that no value stores; the code moves one message at a time.
-use Rattle.std.specs.Prelude.{◌≡◌, ℕ, ◌≤◌, Bool, true, List, [], ◌∷◌, ◌++◌, length, Option, Some, None, ⊤}
+use Rattle.std.specs.Prelude.{◌≡◌, ℕ, ◌≤◌, Bool, true, false, List, [], ◌∷◌, ◌++◌, length, Option, Some, None, ⊤}
 use mathlib.Core.Option.{some}
 use lib.ListN.{get_elem?}
 use Rattle.osm_pipe.specs.declared.rule.Hand.{Hand}
@@ -14,6 +14,14 @@ module _ {T : Type 0} where
   -- what a half knows: whether it sends and takes, its limit, and what it sent and took
   abbrev pub hand : Bool → Bool → Option ℕ → List T → List T → Hand T
   hand sends takes limit sent taken = record { sends = sends; takes = takes; limit = limit; sent = sent; taken = taken }
+
+  -- a half that only sends, within a limit
+  abbrev pub SendsOnly : Option ℕ → Hand T → Type 0
+  SendsOnly limit v = v ≡ hand true false limit v.sent []
+
+  -- a half that only takes, within a limit
+  abbrev pub TakesOnly : Option ℕ → Hand T → Type 0
+  TakesOnly limit v = v ≡ hand false true limit [] v.taken
 
   -- a half that sent a message
   abbrev pub HasSent : Hand T → T → Hand T → Type 0

@@ -10,7 +10,7 @@ use Rattle.crossbeam_queue.specs.declared.seg_queue.Going.{Going}
 use Rattle.osm_entity.specs.Items.{ItemValue}
 use Rattle.osm_entity.specs.declared.stream.Message.{Message}
 use Rattle.osm_entity.specs.declared.stream.Message.TheVariants as Says
-use Rattle.osm_pipe.specs.Rule.{hand}
+use Rattle.osm_pipe.specs.Rule.{hand, SendsOnly, TakesOnly}
 use Rattle.osm_pipe.specs.declared.rule.Hand.{Hand}
 use Rattle.osm_pipe.specs.declared.store.Last.{Last}
 
@@ -27,6 +27,10 @@ pub record SpoolValue : Type 0 where
 -- a half of a spool, of its parts
 abbrev pub spool_half : SpoolId → List Message → SpoolValue
 spool_half pipe list = record { pipe = pipe; list = list }
+
+-- a half of a spool, and one message more
+abbrev pub spool_more : SpoolValue → Message → SpoolValue
+spool_more h message = spool_half h.pipe (h.list ++ message ∷ [])
 
 -- a pass of the queue of items
 abbrev pub ItemPass : Type 0
@@ -64,14 +68,15 @@ kept_of (Some last) = last ∷ []
 
 -- the giver of a spool sends, and each end that it sent counts its items
 pub record GivesSpool (items : Hand ItemValue) (ends : Hand Last) (count : ℕ) : Type 0 where
-  pub of_items : items ≡ hand true false None items.sent []
-  pub of_ends : ends ≡ hand true false None ends.sent []
+  pub of_items : SendsOnly None items
+  pub of_ends : SendsOnly None ends
   pub counted : count ≡ length items.sent
   pub each_counts : All (λ last. last.count ≡ length items.sent) ends.sent
 
 -- the taker of a spool takes, keeps what it found in the slot, and has ended after the items that this counts
-pub record TakesSpool (items : Hand ItemValue) (ends : Hand Last) (count : ℕ) (last : Option Last) (done : Bool) : Type 0 where
-  pub of_items : items ≡ hand false true None [] items.taken
+pub record TakesSpool (items : Hand ItemValue) (ends : Hand Last) (count : ℕ) (last : Option Last) (done : Bool)
+    : Type 0 where
+  pub of_items : TakesOnly None items
   pub of_ends : ends ≡ hand false true None [] (kept_of last)
   pub counted : count ≡ length items.taken
   pub ended : done ≡ true → (l : Last) × (last ≡ Some l) × (l.count ≡ length items.taken)

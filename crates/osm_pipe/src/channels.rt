@@ -3,8 +3,8 @@ ghost use Rattle.std.specs.Prelude.{◌≡◌, ◌<◌, ◌-◌, ◌++◌, ◌�
 ghost use Rattle.crossbeam_channel.specs.Claims.{view, IsSeatAt};
 ghost use Rattle.crossbeam_channel.specs.Ends.{sends_on, receives_on, ruled_capacity};
 ghost use Rattle.osm_entity.specs.Prefixes.{IsPrefix};
-ghost use Rattle.osm_pipe.specs.Bounded.{bounded_half, bounded_of};
-ghost use Rattle.osm_pipe.specs.Rule.{hand, IsWithin};
+ghost use Rattle.osm_pipe.specs.Bounded.{bounded_half, bounded_more, bounded_of};
+ghost use Rattle.osm_pipe.specs.Rule.{hand, HasSent, HasTaken, IsWithin};
 
 use crate::rule::{Halves, Hand, InOrder, Limit, Sends, Takes, Whole};
 use crossbeam_channel::{Pass, RuledReceiver, RuledSender, bounded_with};
@@ -31,17 +31,18 @@ pub struct BoundedGiver {
 }
 
 impl Model for BoundedGiver {
-    ghost use Rattle.std.specs.Prelude.{◌≡◌, true, false, [], Some};
+    ghost use Rattle.std.specs.Prelude.{Some};
     ghost use Rattle.crossbeam_channel.specs.Claims.{IsSeatAt};
     ghost use Rattle.crossbeam_channel.specs.Ends.{sends_on, ruled_capacity};
     ghost use Rattle.osm_pipe.specs.Bounded.{BoundedValue, bounded_half, bounded_of, hand_of};
-    ghost use Rattle.osm_pipe.specs.Rule.{hand};
+    ghost use Rattle.osm_pipe.specs.Rule.{SendsOnly};
 
     ghost Value = { BoundedValue };
 
     ghost view = { λ g. bounded_half (bounded_of g.pass) (hand_of g.pass).sent };
 
-    ghost invariant = { λ g. IsSeatAt (sends_on g.to) g.pass × (hand_of g.pass ≡ hand true false (Some (ruled_capacity (sends_on g.to))) (hand_of g.pass).sent []) };
+    ghost invariant = { λ g. IsSeatAt (sends_on g.to) g.pass
+        × SendsOnly (Some (ruled_capacity (sends_on g.to))) (hand_of g.pass) };
 }
 
 /// The taking half of a bounded pipe, seen as the pipe and what was taken.
@@ -52,17 +53,17 @@ pub struct BoundedTaker {
 }
 
 impl Model for BoundedTaker {
-    ghost use Rattle.std.specs.Prelude.{◌≡◌, true, false, []};
     ghost use Rattle.crossbeam_channel.specs.Claims.{IsSeatAt};
     ghost use Rattle.crossbeam_channel.specs.Ends.{receives_on};
     ghost use Rattle.osm_pipe.specs.Bounded.{BoundedValue, bounded_half, bounded_of, hand_of};
-    ghost use Rattle.osm_pipe.specs.Rule.{hand};
+    ghost use Rattle.osm_pipe.specs.Rule.{TakesOnly};
 
     ghost Value = { BoundedValue };
 
     ghost view = { λ t. bounded_half (bounded_of t.pass) (hand_of t.pass).taken };
 
-    ghost invariant = { λ t. IsSeatAt (receives_on t.from) t.pass × (hand_of t.pass ≡ hand false true (hand_of t.pass).limit [] (hand_of t.pass).taken) };
+    ghost invariant = { λ t. IsSeatAt (receives_on t.from) t.pass
+        × TakesOnly (hand_of t.pass).limit (hand_of t.pass) };
 }
 
 /// Cuts the first pass of a channel into those of its two halves.
@@ -71,7 +72,7 @@ fn part<L: Limit>(to: &To, pass: &mut Seat) -> Seat
     requires new { view pass.old ≡ hand true true (Some 0) [] [] }
     requires limit { L.limit ≡ Some (ruled_capacity (sends_on to.now)) }
     ensures seat { IsSeatAt (sends_on to.now) pass.new × IsSeatAt (sends_on to.now) result }
-    ensures gives { view pass.new ≡ hand true false (Some (ruled_capacity (sends_on to.now))) [] [] }
+    ensures sends { view pass.new ≡ hand true false (Some (ruled_capacity (sends_on to.now))) [] [] }
     ensures takes { view result ≡ hand false true (Some (ruled_capacity (sends_on to.now))) [] [] }
 {
     to.another::<Halves<L>>(pass)
@@ -82,8 +83,9 @@ fn send<R: Wait>(rt: &R, to: &To, pass: &mut Seat, message: Message)
     requires seat { IsSeatAt (sends_on to.now) pass.old }
     requires sends { (view pass.old).sends ≡ true }
     requires limit { (view pass.old).limit ≡ Some (ruled_capacity (sends_on to.now)) }
-    ensures seat { IsSeatAt (sends_on to.now) pass.new × (bounded_of pass.new ≡ bounded_of pass.old) }
-    ensures sent { view pass.new ≡ hand (view pass.old).sends (view pass.old).takes (view pass.old).limit ((view pass.old).sent ++ message ∷ []) (view pass.old).taken }
+    ensures seat { IsSeatAt (sends_on to.now) pass.new }
+    ensures same { bounded_of pass.new ≡ bounded_of pass.old }
+    ensures sent { HasSent (view pass.old) message (view pass.new) }
 {
     let mut message = message;
     for _ in 0..TRIES {
@@ -106,8 +108,9 @@ fn send<R: Wait>(rt: &R, to: &To, pass: &mut Seat, message: Message)
 fn receive<R: Wait>(rt: &R, from: &From, pass: &mut Seat) -> Message
     requires seat { IsSeatAt (receives_on from.now) pass.old }
     requires takes { (view pass.old).takes ≡ true }
-    ensures seat { IsSeatAt (receives_on from.now) pass.new × (bounded_of pass.new ≡ bounded_of pass.old) }
-    ensures taken { view pass.new ≡ hand (view pass.old).sends (view pass.old).takes (view pass.old).limit (view pass.old).sent ((view pass.old).taken ++ result ∷ []) }
+    ensures seat { IsSeatAt (receives_on from.now) pass.new }
+    ensures same { bounded_of pass.new ≡ bounded_of pass.old }
+    ensures taken { HasTaken (view pass.old) result (view pass.new) }
 {
     for _ in 0..TRIES {
         match from.try_recv_as::<Takes, R>(rt, pass) {
@@ -129,7 +132,8 @@ pub fn bounded_halves(
     capacity: u32,
 ) -> Result<(BoundedGiver, BoundedTaker), NoMemory>
     requires { 0 < capacity }
-    ensures new { IfOk result (λ r. (r.0 ≡ bounded_half r.0.pipe []) × (r.1 ≡ bounded_half r.0.pipe [])) }
+    ensures new { IfOk result
+        (λ r. (r.0 ≡ bounded_half r.0.pipe []) × (r.1 ≡ bounded_half r.0.pipe [])) }
     ensures limit { IfOk result (λ r. r.0.pipe.limit ≡ Some capacity) }
 {
     match bounded_with(alloc, capacity as usize) {
@@ -147,7 +151,7 @@ pub fn bounded_halves(
 impl BoundedGiver {
     /// Sends a message, which waits while the pipe is full.
     pub fn send<R: Wait>(&mut self, rt: &R, message: Message)
-        ensures { self.new ≡ bounded_half self.old.pipe (self.old.list ++ message ∷ []) }
+        ensures { self.new ≡ bounded_more self.old message }
     {
         let half = &mut *self;
         send(rt, &half.to, &mut half.pass, message)
@@ -157,7 +161,7 @@ impl BoundedGiver {
 impl BoundedTaker {
     /// Takes a message, which waits while the pipe is empty.
     pub fn receive<R: Wait>(&mut self, rt: &R) -> Message
-        ensures { self.new ≡ bounded_half self.old.pipe (self.old.list ++ result ∷ []) }
+        ensures { self.new ≡ bounded_more self.old result }
     {
         let half = &mut *self;
         receive(rt, &half.from, &mut half.pass)

@@ -1,7 +1,7 @@
-//! Pipes between threads: what one half gives, the other half takes, in order and each message once.
+//! Pipes between threads: what one half gives, the other takes, in order and each message once.
 //!
-//! A pipe is bounded, and then its giver waits while the pipe is full, or it is a spool, which grows.
-//! Its giver gives items and then one end. When both halves have come back, `meet` shows what was
+//! A pipe is bounded, and its giver waits while it is full, or it is a spool, which grows. The giver
+//! gives items and then one end. When both halves have come back, `meet` shows what was
 //! taken beside what was sent.
 #![tactic(auto)]
 
@@ -11,6 +11,8 @@ mod pipe;
 mod rule;
 mod spools;
 mod store;
+#[cfg(test)]
+mod tests;
 mod way;
 
 pub use pipe::{Giver, Sent, Taken, Taker, bounded, meet, spool};

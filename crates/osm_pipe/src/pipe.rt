@@ -1,8 +1,8 @@
 //! Pipes of either kind, by their halves.
-ghost use Rattle.std.specs.Prelude.{◌≡◌, ◌<◌, ◌-◌, ◌++◌, ◌∷◌, [], true, false, Some, None, length, IfOk, IfErr, MatchResult};
+ghost use Rattle.std.specs.Prelude.{◌≡◌, ◌<◌, ◌-◌, [], true, false, Some, None, length, IfOk, IfErr, OnOk};
 ghost use Rattle.osm_entity.specs.Ports.{has_end};
 ghost use Rattle.osm_entity.specs.declared.stream.Message.TheVariants as Says;
-ghost use Rattle.osm_pipe.specs.Pipes.{half, capacity_of, Meets};
+ghost use Rattle.osm_pipe.specs.Pipes.{half, half_more, capacity_of, Meets};
 ghost use Rattle.osm_pipe.specs.Rule.{IsWithin};
 
 use crate::channels::{bounded_halves, bounded_meets};
@@ -46,7 +46,8 @@ impl Model for Sent {
 
     ghost view = { λ s. giver_half s.way };
 
-    ghost invariant = { λ s. (has_end (giver_half s.way).list ≡ true) × EndsLast (giver_half s.way).list };
+    ghost invariant = { λ s. (has_end (giver_half s.way).list ≡ true)
+        × EndsLast (giver_half s.way).list };
 }
 
 /// The taking half of a pipe, seen as the pipe and what was taken.
@@ -113,7 +114,8 @@ impl Giver {
     /// item comes back, and nothing was sent.
     #[tactic(auto, using(crate::proofs::PipeLemmas::has_end_item))]
     pub fn give<R: Wait>(&mut self, rt: &R, item: Item) -> Result<(), Item>
-        ensures given { MatchResult result (λ _. self.new ≡ half self.old.pipe (self.old.list ++ Says.Item item ∷ [])) (λ back. (back ≡ item) × (self.new ≡ self.old)) }
+        ensures ok { OnOk result (self.new ≡ half_more self.old (Says.Item item)) }
+        ensures err { IfErr result (λ back. (back ≡ item) × (self.new ≡ self.old)) }
         ensures open { has_end self.new.list ≡ false }
         ensures spool { IfErr result (λ _. capacity_of self.old.pipe ≡ None) }
     {
@@ -131,7 +133,7 @@ impl Giver {
     #[tactic(auto, using(crate::proofs::PipeLemmas::ends_last_end, crate::proofs::PipeLemmas::has_end_end))]
     pub fn end<R: Wait>(self, rt: &R, end: End) -> Sent
         ensures first { has_end self.list ≡ false }
-        ensures sent { result ≡ half self.pipe (self.list ++ Says.End end ∷ []) }
+        ensures sent { result ≡ half_more self (Says.End end) }
         ensures shut { has_end result.list ≡ true }
     {
         match self.way {
@@ -155,7 +157,7 @@ impl Taker {
     /// Takes the message that was sent first of those that are left, which may wait for it.
     pub fn take<R: Wait>(&mut self, rt: &R) -> Message
         requires before_end { has_end self.old.list ≡ false }
-        ensures { self.new ≡ half self.old.pipe (self.old.list ++ result ∷ []) }
+        ensures { self.new ≡ half_more self.old result }
     {
         let half = &mut *self;
         match &mut half.way {

@@ -1,7 +1,7 @@
 //! The one rule of all queues here: what was sent is what was taken and then what is on the way.
 //!
-//! Each half of a pipe holds a pass of no bytes, and what the pass knows is a `Hand`. The halves are
-//! made from the queue's first pass, and are joined into it again when they meet.
+//! Each half of a pipe holds a pass of no bytes, and what the pass knows is a `Hand`. The two are
+//! made of the queue's first pass, and are joined into it again when they meet.
 use crossbeam_channel::protocol as channel;
 use crossbeam_queue::protocol as queue;
 use std::collections::LinkedList;

@@ -2,7 +2,7 @@
 //!
 //! The end stands in the slot with the number of items before it, and is taken after that many.
 //! The slot is made with the spool, so the end takes no memory.
-ghost use Rattle.std.specs.Prelude.{◌≡◌, ◌++◌, ◌∷◌, [], true, false, List, None, IfOk, MatchOption, MatchResult};
+ghost use Rattle.std.specs.Prelude.{◌≡◌, ◌++◌, ◌∷◌, [], true, false, List, None, IfOk, IfErr, OnOk, IfSome, IfNone};
 ghost use Rattle.crossbeam_queue.specs.Passes.{IsPassOf, IsSamePass};
 ghost use Rattle.crossbeam_queue.specs.SegTies.{IsSegPassOf};
 ghost use Rattle.osm_entity.specs.Items.{ItemValue};
@@ -10,7 +10,7 @@ ghost use Rattle.osm_entity.specs.Ports.{has_end};
 ghost use Rattle.osm_entity.specs.Prefixes.{IsPrefix};
 ghost use Rattle.osm_entity.specs.declared.stream.Message.TheVariants as Says;
 ghost use Rattle.osm_pipe.specs.Rule.{hand};
-ghost use Rattle.osm_pipe.specs.Spool.{spool_half, items_hand, ends_hand, kept_of};
+ghost use Rattle.osm_pipe.specs.Spool.{spool_half, spool_more, items_hand, ends_hand, kept_of};
 ghost use Rattle.osm_pipe.specs.declared.store.Last.{Last};
 
 use crate::bell::Bell;
@@ -45,9 +45,12 @@ impl Model for SpoolGiver {
 
     ghost Value = { SpoolValue };
 
-    ghost view = { λ g. spool_half (spool_of g.items g.ends) (spooled (items_hand g.items).sent (ends_hand g.ends).sent) };
+    ghost view = { λ g. spool_half (spool_of g.items g.ends)
+        (spooled (items_hand g.items).sent (ends_hand g.ends).sent) };
 
-    ghost invariant = { λ g. IsSegPassOf (arc_value g.store).queue g.items × IsPassOf (arc_value g.store).slot g.ends × GivesSpool (items_hand g.items) (ends_hand g.ends) g.count };
+    ghost invariant = { λ g. IsSegPassOf (arc_value g.store).queue g.items
+        × IsPassOf (arc_value g.store).slot g.ends
+        × GivesSpool (items_hand g.items) (ends_hand g.ends) g.count };
 }
 
 /// The taking half of a spool, seen as the spool and what was taken.
@@ -69,9 +72,12 @@ impl Model for SpoolTaker {
 
     ghost Value = { SpoolValue };
 
-    ghost view = { λ t. spool_half (spool_of t.items t.ends) (spooled (items_hand t.items).taken (shown t.has_ended (ends_hand t.ends).taken)) };
+    ghost view = { λ t. spool_half (spool_of t.items t.ends)
+        (spooled (items_hand t.items).taken (shown t.has_ended (ends_hand t.ends).taken)) };
 
-    ghost invariant = { λ t. IsSegPassOf (arc_value t.store).queue t.items × IsPassOf (arc_value t.store).slot t.ends × TakesSpool (items_hand t.items) (ends_hand t.ends) t.count t.last t.has_ended };
+    ghost invariant = { λ t. IsSegPassOf (arc_value t.store).queue t.items
+        × IsPassOf (arc_value t.store).slot t.ends
+        × TakesSpool (items_hand t.items) (ends_hand t.ends) t.count t.last t.has_ended };
 }
 
 /// A new spool.
@@ -122,7 +128,8 @@ impl SpoolGiver {
     #[tactic(auto, using(crate::proofs::RuleLemmas::sends, crate::proofs::RuleLemmas::within_any, crate::proofs::SpoolLemmas::no_ends, crate::proofs::SpoolLemmas::spooled_item))]
     pub fn push<R: Wait>(&mut self, rt: &R, item: Item) -> Result<(), Item>
         requires before_end { has_end self.old.list ≡ false }
-        ensures { MatchResult result (λ _. self.new ≡ spool_half self.old.pipe (self.old.list ++ Says.Item item ∷ [])) (λ back. (back ≡ item) × (self.new ≡ self.old)) }
+        ensures ok { OnOk result (self.new ≡ spool_more self.old (Says.Item item)) }
+        ensures err { IfErr result (λ back. (back ≡ item) × (self.new ≡ self.old)) }
     {
         let half = &mut *self;
         if half.count == u64::MAX {
@@ -146,7 +153,7 @@ impl SpoolGiver {
     #[tactic(auto, using(crate::proofs::RuleLemmas::sends, crate::proofs::RuleLemmas::within_any, crate::proofs::RuleLemmas::holds_less, crate::proofs::SpoolLemmas::no_ends, crate::proofs::SpoolLemmas::spooled_end))]
     pub fn close<R: Wait>(&mut self, rt: &R, end: End)
         requires before_end { has_end self.old.list ≡ false }
-        ensures { self.new ≡ spool_half self.old.pipe (self.old.list ++ Says.End end ∷ []) }
+        ensures { self.new ≡ spool_more self.old (Says.End end) }
     {
         let half = &mut *self;
         let last = Last {
@@ -183,7 +190,8 @@ impl SpoolTaker {
     /// Takes the item sent first of those that are left, if one is there.
     #[tactic(auto, using(crate::proofs::RuleLemmas::takes, crate::proofs::SpoolLemmas::unshown, crate::proofs::SpoolLemmas::spooled_item))]
     fn try_item<R: Wait>(&mut self, rt: &R) -> Option<Item>
-        ensures { MatchOption result (self.new ≡ self.old) (λ item. self.new ≡ spool_half self.old.pipe (self.old.list ++ Says.Item item ∷ [])) }
+        ensures found { IfSome result (λ item. self.new ≡ spool_more self.old (Says.Item item)) }
+        ensures none { IfNone result (self.new ≡ self.old) }
     {
         let half = &mut *self;
         if half.has_ended {
@@ -205,7 +213,8 @@ impl SpoolTaker {
     /// Takes the end, if all items before it were taken.
     #[tactic(auto, using(crate::proofs::SpoolLemmas::takes_end, crate::proofs::SpoolLemmas::takes_none, crate::proofs::SpoolLemmas::shown_end, crate::proofs::SpoolLemmas::shown_none))]
     fn try_end<R: Wait>(&mut self, rt: &R) -> Option<End>
-        ensures { MatchOption result (self.new ≡ self.old) (λ end. self.new ≡ spool_half self.old.pipe (self.old.list ++ Says.End end ∷ [])) }
+        ensures found { IfSome result (λ end. self.new ≡ spool_more self.old (Says.End end)) }
+        ensures none { IfNone result (self.new ≡ self.old) }
     {
         let half = &mut *self;
         if half.has_ended {
@@ -223,7 +232,8 @@ impl SpoolTaker {
 
     /// Takes the message sent first of those that are left, if one is there.
     fn try_receive<R: Wait>(&mut self, rt: &R) -> Option<Message>
-        ensures { MatchOption result (self.new ≡ self.old) (λ message. self.new ≡ spool_half self.old.pipe (self.old.list ++ message ∷ [])) }
+        ensures found { IfSome result (λ message. self.new ≡ spool_more self.old message) }
+        ensures none { IfNone result (self.new ≡ self.old) }
     {
         if let Some(item) = self.try_item(rt) {
             return Some(Message::Item(item));
@@ -236,7 +246,7 @@ impl SpoolTaker {
 
     /// Takes a message, which waits while there is none.
     pub fn receive<R: Wait>(&mut self, rt: &R) -> Message
-        ensures { self.new ≡ spool_half self.old.pipe (self.old.list ++ result ∷ []) }
+        ensures { self.new ≡ spool_more self.old result }
     {
         for _ in 0..TRIES {
             if let Some(message) = self.try_receive(rt) {
@@ -260,7 +270,8 @@ fn join_items<R: Wait>(rt: &R, queue: &Queue, mut giver: ItemPass, taker: ItemPa
     requires seats { IsSegPassOf queue.now giver × IsSegPassOf queue.now taker }
     requires sends { (items_hand giver).sends ≡ true }
     requires takes { (items_hand taker).takes ≡ true }
-    ensures { (left : List ItemValue) × ((items_hand giver).sent ≡ (items_hand taker).taken ++ left) }
+    ensures { (left : List ItemValue)
+        × ((items_hand giver).sent ≡ (items_hand taker).taken ++ left) }
 {
     queue.absorb::<Halves<Unlimited>>(&mut giver, taker);
     queue.len_as::<Whole, R>(rt, &mut giver);

@@ -6,10 +6,12 @@ use Rattle.osm_pipe.proofs.RuleLemmas.{joins, tells, left_within}
 use Rattle.osm_pipe.proofs.channels.bounded_meets.Goals as goal
 
 pub absorb-requires-clause-rule : goal.absorb-requires-clause-rule
-absorb-requires-clause-rule c = joins _ _ _ _ (ap (λ (v : Hand Message). v.sends) c.sent.invariant.1) (ap (λ (v : Hand Message). v.takes) c.taken.invariant.1)
+absorb-requires-clause-rule c = joins _ _ _ _
+    (ap (λ (v : Hand Message). v.sends) c.sent.invariant.1) (ap (λ (v : Hand Message). v.takes) c.taken.invariant.1)
 
 pub learn_as-requires-clause-rule : goal.learn_as-requires-clause-rule
-learn_as-requires-clause-rule c = tells _ _ (ap (λ (v : Hand Message). v.sends) c.absorb.ensures.rule) (ap (λ (v : Hand Message). v.takes) c.absorb.ensures.rule)
+learn_as-requires-clause-rule c = let both = c.absorb.ensures.rule in
+    tells _ _ (ap (λ (v : Hand Message). v.sends) both) (ap (λ (v : Hand Message). v.takes) both)
 
 pub returns-clause-prefix : goal.returns-clause-prefix
 returns-clause-prefix c = let told = c.learn_as.ensures.rule in
@@ -18,4 +20,5 @@ returns-clause-prefix c = let told = c.learn_as.ensures.rule in
 
 pub returns-clause-within : goal.returns-clause-within
 returns-clause-within c = let told = c.learn_as.ensures.rule in
-    rw (← c.sent.view_is, ← c.taken.view_is) (left_within _ told.0 (subst (λ h. IsOnTheWay h told.0) c.absorb.ensures.rule told.1))
+    let way = subst (λ h. IsOnTheWay h told.0) c.absorb.ensures.rule told.1 in
+    rw (← c.sent.view_is, ← c.taken.view_is) (left_within _ told.0 way)

@@ -9,17 +9,19 @@ use Rattle.osm_pipe.proofs.channels.send.Goals as goal
 pub try_send_as-requires-clause-rule : goal.try_send_as-requires-clause-rule
 try_send_as-requires-clause-rule g c =
     let places = ruled_capacity (sends_on c.args.to.now) in
+    let pass = c.loop.pass in
     let known = c.loop.invariant.2 in (
-      sends places c.loop.pass.id (view c.loop.pass) c.loop.message (ap (λ (v : Hand Message). v.sends) known ∙ c.requires.sends)
-          (within_full (view c.loop.pass).limit places (ap (λ (v : Hand Message). v.limit) known ∙ c.requires.limit)),
+      sends places pass.id (view pass) c.loop.message (ap (λ (v : Hand Message). v.sends) known ∙ c.requires.sends)
+          (within_full (view pass).limit places (ap (λ (v : Hand Message). v.limit) known ∙ c.requires.limit)),
       λ items views h at. tt,
     )
 
 pub send_as-requires-clause-rule : goal.send_as-requires-clause-rule
 send_as-requires-clause-rule g c =
     let places = ruled_capacity (sends_on c.args.to.now) in
+    let pass = c.loop-2.pass in
     let known = c.loop-2.invariant.4 ∙ c.loop.invariant.2 in (
-      sends places c.loop-2.pass.id (view c.loop-2.pass) c.loop-2.message (ap (λ (v : Hand Message). v.sends) known ∙ c.requires.sends)
-          (within_full (view c.loop-2.pass).limit places (ap (λ (v : Hand Message). v.limit) known ∙ c.requires.limit)),
+      sends places pass.id (view pass) c.loop-2.message (ap (λ (v : Hand Message). v.sends) known ∙ c.requires.sends)
+          (within_full (view pass).limit places (ap (λ (v : Hand Message). v.limit) known ∙ c.requires.limit)),
       λ items views h at. tt,
     )

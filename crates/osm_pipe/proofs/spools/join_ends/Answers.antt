@@ -10,7 +10,8 @@ absorb-requires-clause-rule c = joins _ _ _ _ c.requires.sends c.requires.takes
 
 pub learn_as-requires-clause-rule : goal.learn_as-requires-clause-rule
 learn_as-requires-clause-rule c =
-    tells _ _ (ap (λ (v : Hand Last). v.sends) c.absorb.ensures.rule) (ap (λ (v : Hand Last). v.takes) c.absorb.ensures.rule)
+    let both = c.absorb.ensures.rule in
+    tells _ _ (ap (λ (v : Hand Last). v.sends) both) (ap (λ (v : Hand Last). v.takes) both)
 
 pub returns : goal.returns
 returns c = let told = c.learn_as.ensures.rule in

@@ -10,7 +10,8 @@ absorb-requires-clause-rule g c = joins _ _ _ _ c.requires.sends c.requires.take
 
 pub len_as-requires-clause-rule : goal.len_as-requires-clause-rule
 len_as-requires-clause-rule g c =
-    tells _ _ (ap (λ (v : Hand ItemValue). v.sends) c.absorb.ensures.rule) (ap (λ (v : Hand ItemValue). v.takes) c.absorb.ensures.rule)
+    let both = c.absorb.ensures.rule in
+    tells _ _ (ap (λ (v : Hand ItemValue). v.sends) both) (ap (λ (v : Hand ItemValue). v.takes) both)
 
 pub returns : goal.returns
 returns g c = let told = c.len_as.ensures.rule in

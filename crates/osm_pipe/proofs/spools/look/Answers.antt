@@ -7,4 +7,5 @@ use Rattle.osm_pipe.proofs.spools.look.Goals as goal
 
 pub pop_as-requires-clause-rule : goal.pop_as-requires-clause-rule
 pop_as-requires-clause-rule g c =
-    (takes c.args.ends.now.id (ends_hand c.args.ends.now) (ap (λ (v : Hand Last). v.takes) c.requires.takes), λ items views h at. tt)
+    let pass = c.args.ends.now in
+    (takes pass.id (ends_hand pass) (ap (λ (v : Hand Last). v.takes) c.requires.takes), λ items views h at. tt)

@@ -9,7 +9,10 @@ pub returns : goal.returns
 returns g c =
     let items = c.join_items.ensures in
     let ends = c.join_ends.ensures in
-    let taker = c.taken.invariant.2 in
-    rw (← c.sent.view_is, ← c.taken.view_is) (spool_prefix (items_hand c.sent.inside.items).sent (items_hand c.taken.inside.items).taken items.0
-    (ends_hand c.sent.inside.ends).sent (ends_hand c.taken.inside.ends).taken ends.0 c.taken.inside.last c.taken.inside.has_ended
-    items.1 ends.1 c.sent.invariant.2.each_counts (ap (λ (h : Hand Last). h.taken) taker.of_ends) taker.ended)
+    let giver = c.sent.inside in
+    let taker = c.taken.inside in
+    let known = c.taken.invariant.2 in
+    rw (← c.sent.view_is, ← c.taken.view_is) (
+    spool_prefix (items_hand giver.items).sent (items_hand taker.items).taken items.0
+    (ends_hand giver.ends).sent (ends_hand taker.ends).taken ends.0 taker.last taker.has_ended items.1 ends.1
+    c.sent.invariant.2.each_counts (ap (λ (h : Hand Last). h.taken) known.of_ends) known.ended)

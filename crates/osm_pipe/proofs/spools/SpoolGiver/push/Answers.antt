@@ -20,8 +20,10 @@ pub invariant_of-half : goal.invariant_of-half
 invariant_of-half g c =
     let ends = ends_hand c.half.inside.ends in
     let items = items_hand c.half.inside.items in
-    let none : ends.sent ≡ [] = no_ends items.sent ends.sent (ap (λ (h : SpoolValue). has_end h.list) c.half.view_is ∙ c.requires.before_end) in (
+    let unended = ap (λ (h : SpoolValue). has_end h.list) c.half.view_is ∙ c.requires.before_end in
+    let none : ends.sent ≡ [] = no_ends items.sent ends.sent unended in (
       subst (λ (s : Store). IsSegPassOf s.queue c.push_as.new.pass) c.deref.ensures c.push_as.ensures.queue.0,
       c.half.invariant.1,
-      gives_item items (items_hand c.push_as.new.pass) ends c.half.inside.count c.args.item c.half.invariant.2 c.in-Ok.ensures.rule.0 none,
+      gives_item items (items_hand c.push_as.new.pass) ends c.half.inside.count c.args.item c.half.invariant.2
+          c.in-Ok.ensures.rule.0 none,
     )

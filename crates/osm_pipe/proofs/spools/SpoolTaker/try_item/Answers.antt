@@ -7,9 +7,10 @@ use Rattle.osm_pipe.proofs.spools.SpoolTaker.try_item.Goals as goal
 
 pub invariant_of-half : goal.invariant_of-half
 invariant_of-half g c =
+    let half = c.half.inside in
     let not : c.half.inside.has_ended ≡ false = search rules in (
       subst (λ (s : Store). IsSegPassOf s.queue c.pop_as.new.pass) c.deref.ensures c.pop_as.ensures.queue.0,
       c.half.invariant.1,
-      takes_item (items_hand c.half.inside.items) (items_hand c.pop_as.new.pass) (ends_hand c.half.inside.ends) c.half.inside.count
-          c.half.inside.last c.half.inside.has_ended c.in-Some.item c.half.invariant.2 c.in-Some.ensures.rule.0 not,
+      takes_item (items_hand half.items) (items_hand c.pop_as.new.pass) (ends_hand half.ends) half.count half.last
+          half.has_ended c.in-Some.item c.half.invariant.2 c.in-Some.ensures.rule.0 not,
     )
