@@ -72,8 +72,10 @@ fn part<L: Limit>(to: &To, pass: &mut Seat) -> Seat
     requires new { view pass.old ≡ hand true true (Some 0) [] [] }
     requires limit { L.limit ≡ Some (ruled_capacity (sends_on to.now)) }
     ensures seat { IsSeatAt (sends_on to.now) pass.new × IsSeatAt (sends_on to.now) result }
-    ensures sends { view pass.new ≡ hand true false (Some (ruled_capacity (sends_on to.now))) [] [] }
-    ensures takes { view result ≡ hand false true (Some (ruled_capacity (sends_on to.now))) [] [] }
+    ensures sends { view pass.new
+        ≡ hand true false (Some (ruled_capacity (sends_on to.now))) [] [] }
+    ensures takes { view result
+        ≡ hand false true (Some (ruled_capacity (sends_on to.now))) [] [] }
 {
     to.another::<Halves<L>>(pass)
 }

@@ -2,27 +2,25 @@
 //!
 //! The end stands in the slot with the number of items before it, and is taken after that many.
 //! The slot is made with the spool, so the end takes no memory.
-ghost use Rattle.std.specs.Prelude.{◌≡◌, ◌++◌, ◌∷◌, [], true, false, List, None, IfOk, IfErr, OnOk, IfSome, IfNone};
+ghost use Rattle.std.specs.Prelude.{◌≡◌, [], true, false, None, IfErr, OnOk, IfSome, IfNone};
 ghost use Rattle.crossbeam_queue.specs.Passes.{IsPassOf, IsSamePass};
-ghost use Rattle.crossbeam_queue.specs.SegTies.{IsSegPassOf};
-ghost use Rattle.osm_entity.specs.Items.{ItemValue};
 ghost use Rattle.osm_entity.specs.Ports.{has_end};
-ghost use Rattle.osm_entity.specs.Prefixes.{IsPrefix};
 ghost use Rattle.osm_entity.specs.declared.stream.Message.TheVariants as Says;
 ghost use Rattle.osm_pipe.specs.Rule.{hand};
-ghost use Rattle.osm_pipe.specs.Spool.{spool_half, spool_more, items_hand, ends_hand, kept_of};
-ghost use Rattle.osm_pipe.specs.declared.store.Last.{Last};
+ghost use Rattle.osm_pipe.specs.Spool.{spool_more, items_hand, ends_hand, kept_of};
 
-use crate::bell::Bell;
 use crate::channels::TRIES;
-use crate::rule::{Halves, Hand, Sends, Takes, Unlimited, Whole};
-use crate::store::{Last, Queue, Slot, Store};
+use crate::rule::{Hand, Sends, Takes};
+use crate::store::{Last, Slot, Store};
 use crossbeam_queue::{Pass, SegPass};
-use osm_entity::{End, Item, Message, NoMemory};
-use std::alloc::Global;
+use osm_entity::{End, Item, Message};
 use std::marker::Model;
 use std::sync::{Arc, Wait};
 use std::thread;
+
+mod halves;
+
+pub use halves::{spool_halves, spool_meets};
 
 type ItemPass = SegPass<Item, Hand<Item>>;
 
@@ -78,48 +76,6 @@ impl Model for SpoolTaker {
     ghost invariant = { λ t. IsSegPassOf (arc_value t.store).queue t.items
         × IsPassOf (arc_value t.store).slot t.ends
         × TakesSpool (items_hand t.items) (ends_hand t.ends) t.count t.last t.has_ended };
-}
-
-/// A new spool.
-#[tactic(auto, using(crate::proofs::RuleLemmas::begins, crate::proofs::RuleLemmas::splits))]
-pub fn spool_halves(alloc: Global) -> Result<(SpoolGiver, SpoolTaker), NoMemory>
-    ensures { IfOk result (λ r. (r.0 ≡ spool_half r.0.pipe []) × (r.1 ≡ spool_half r.0.pipe [])) }
-{
-    let Ok((queue, mut items)) = Queue::with_rule(alloc) else {
-        return Err(NoMemory);
-    };
-    let Ok((slot, mut ends)) = Slot::ruled(alloc, 1) else {
-        queue.destroy();
-        return Err(NoMemory);
-    };
-    let other_items = queue.another::<Halves<Unlimited>>(&mut items);
-    let other_ends = slot.another::<Halves<Unlimited>>(&mut ends);
-    let store = Store {
-        queue,
-        slot,
-        bell: Bell::new(),
-    };
-    let Ok(store) = Arc::new(alloc, store) else {
-        return Err(NoMemory);
-    };
-    let Ok(other_store) = Arc::try_clone(&store) else {
-        return Err(NoMemory);
-    };
-    let giver = SpoolGiver {
-        store,
-        items,
-        ends,
-        count: 0,
-    };
-    let taker = SpoolTaker {
-        store: other_store,
-        items: other_items,
-        ends: other_ends,
-        count: 0,
-        last: None,
-        has_ended: false,
-    };
-    Ok((giver, taker))
 }
 
 impl SpoolGiver {
@@ -263,50 +219,4 @@ impl SpoolTaker {
         }
         unreachable!()
     }
-}
-
-/// Joins the two passes of the items: what was sent is what was taken and then what is left.
-fn join_items<R: Wait>(rt: &R, queue: &Queue, mut giver: ItemPass, taker: ItemPass)
-    requires seats { IsSegPassOf queue.now giver × IsSegPassOf queue.now taker }
-    requires sends { (items_hand giver).sends ≡ true }
-    requires takes { (items_hand taker).takes ≡ true }
-    ensures { (left : List ItemValue)
-        × ((items_hand giver).sent ≡ (items_hand taker).taken ++ left) }
-{
-    queue.absorb::<Halves<Unlimited>>(&mut giver, taker);
-    queue.len_as::<Whole, R>(rt, &mut giver);
-}
-
-/// Joins the two passes of the slot.
-fn join_ends(slot: &Slot, mut giver: EndPass, taker: EndPass)
-    requires seats { IsPassOf slot.now giver × IsPassOf slot.now taker }
-    requires sends { (ends_hand giver).sends ≡ true }
-    requires takes { (ends_hand taker).takes ≡ true }
-    ensures { (left : List Last) × ((ends_hand giver).sent ≡ (ends_hand taker).taken ++ left) }
-{
-    slot.absorb::<Halves<Unlimited>>(&mut giver, taker);
-    slot.learn_as::<Whole>(&mut giver);
-}
-
-/// Joins the two halves of a spool: what was taken is a prefix of what was sent.
-pub fn spool_meets<R: Wait>(rt: &R, sent: SpoolGiver, taken: SpoolTaker)
-    requires { sent.pipe ≡ taken.pipe }
-    ensures { IsPrefix taken.list sent.list }
-{
-    let SpoolGiver {
-        store,
-        items,
-        ends,
-        count: _,
-    } = sent;
-    let SpoolTaker {
-        store: _,
-        items: other_items,
-        ends: other_ends,
-        count: _,
-        last: _,
-        has_ended: _,
-    } = taken;
-    join_items(rt, &store.queue, items, other_items);
-    join_ends(&store.slot, ends, other_ends);
 }

@@ -3,7 +3,7 @@ use Rattle.osm_entity.specs.Items.{ItemValue}
 use Rattle.osm_pipe.specs.Rule.{IsOnTheWay}
 use Rattle.osm_pipe.specs.declared.rule.Hand.{Hand}
 use Rattle.osm_pipe.proofs.RuleLemmas.{joins, tells}
-use Rattle.osm_pipe.proofs.spools.join_items.Goals as goal
+use Rattle.osm_pipe.proofs.spools.halves.join_items.Goals as goal
 
 pub absorb-requires-clause-rule : goal.absorb-requires-clause-rule
 absorb-requires-clause-rule g c = joins _ _ _ _ c.requires.sends c.requires.takes

@@ -3,7 +3,7 @@ use Rattle.osm_pipe.specs.Spool.{items_hand, ends_hand}
 use Rattle.osm_pipe.specs.declared.rule.Hand.{Hand}
 use Rattle.osm_pipe.specs.declared.store.Last.{Last}
 use Rattle.osm_pipe.proofs.SpoolLemmas.{spool_prefix}
-use Rattle.osm_pipe.proofs.spools.spool_meets.Goals as goal
+use Rattle.osm_pipe.proofs.spools.halves.spool_meets.Goals as goal
 
 pub returns : goal.returns
 returns g c =
