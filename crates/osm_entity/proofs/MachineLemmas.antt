@@ -86,7 +86,7 @@ cut_verdict : (over : Bool) → (if over then TooLong else Read) ≢ Memory
 cut_verdict true = λ is. cc
 cut_verdict false = λ is. cc
 
--- no task ends with the verdict that memory was out
+-- no task ends with the verdict that it is out of memory
 pub verdict_as-memory : (limit count : ℕ) (finish : Finish) → verdict_as limit count finish ≢ Memory
 verdict_as-memory limit count Whole = λ is. cc
 verdict_as-memory limit count Passed = λ is. cc
@@ -103,7 +103,7 @@ judged_by of m x y given (Give port) is runs may =
 judged_by of m x y given Ended is runs may = λ memory. verdict_as-memory (of.task m).limit (length given.bytes)
     ((of.task m).finish given.bytes given.came (streams x)) (sym (may.judged (λ write. cc)) ∙ memory)
 
--- a machine that stands doesn't say that memory was out
+-- a machine that stands doesn't say that it is out of memory
 pub standing_has_memory : {M : Type 0} (of : Meanings M) (m : M) (x y : Ports) (given : Given M) → AreLawful of →
     StandsFor of m x y given → of.verdict m ≢ Memory
 standing_has_memory of m x y given laws stands =

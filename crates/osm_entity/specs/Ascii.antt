@@ -30,7 +30,7 @@ comma = 44
 abbrev pub minus_sign : ℕ
 minus_sign = 45
 
--- the sign before a whole number's fraction
+-- the sign between whole degrees and their decimals
 abbrev pub point : ℕ
 point = 46
 
@@ -54,7 +54,7 @@ plus_sign = 43
 abbrev pub digit_zero : ℕ
 digit_zero = 48
 
--- the control character that is no small number
+-- the control character above the printable ones
 abbrev pub delete_character : ℕ
 delete_character = 127
 
@@ -62,7 +62,7 @@ delete_character = 127
 abbrev pub letter_c : ℕ
 letter_c = 99
 
--- the letter of what is done
+-- the letter of whether an entity is visible or deleted
 abbrev pub letter_d : ℕ
 letter_d = 100
 

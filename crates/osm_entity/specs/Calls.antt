@@ -13,7 +13,7 @@ pub record Pulls {M : Type 0} (of : Meanings M) (old new : M) : Type 0 where
       StandsFor of new x y (with_piece (of.task old).limit piece came given)
   pub left : of.left new < of.left old
 
--- a pull for which there was no memory: its source gave a piece, or its end, and the machine has stopped
+-- a pull that was out of memory: its source gave a piece, or its end, and the machine has stopped
 pub record StopsInPull {M : Type 0} (of : Meanings M) (old new : M) : Type 0 where
   pub piece : List ℕ
   pub came : Bool
@@ -26,7 +26,7 @@ pub record Takes {M : Type 0} (of : Meanings M) (port : ℕ) (message : Message)
       StandsFor of new (added x port message) y given
   pub left : of.left new ≤ of.left old + (of.task old).outputs
 
--- a message was taken for which there was no memory: the machine has stopped behind it
+-- a message was taken and the machine was out of memory: it has stopped behind it
 abbrev pub StopsInTake : {M : Type 0} → Meanings M → ℕ → Message → M → M → Type 0
 StopsInTake of port message old new =
     (x y : Ports) (given : Given _) → StandsFor of old x y given → IsStopped of new (added x port message) y given
@@ -37,6 +37,6 @@ pub record Gives {M : Type 0} (of : Meanings M) (port : ℕ) (message : Message)
       StandsFor of new x (added y port message) given
   pub left : of.left new < of.left old
 
--- no message could be given, since there was no memory: the machine has stopped
+-- no message could be given, out of memory: the machine has stopped
 abbrev pub StopsInGive : {M : Type 0} → Meanings M → M → M → Type 0
 StopsInGive of old new = (x y : Ports) (given : Given _) → StandsFor of old x y given → IsStopped of new x y given

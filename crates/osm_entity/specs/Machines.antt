@@ -29,8 +29,8 @@ with_piece limit piece came given = record given {
   over = (length piece == 0) || nat_lt limit (length (given.bytes ++ piece));
 }
 
--- the meanings of machines: the task of each, what it stands for, what it wants, its verdict, what its sink took where
--- that is told, what holds of its source and sink, and how much it can still do with no more input
+-- what machines mean: the task, the messages stood for, what is wanted, the verdict, what its sink took, and what is
+-- left to do with no input
 pub record Meanings (M : Type 0) : Type 1 where
   pub task : M → TaskMeaning
   pub stands : M → Ports → Ports → Given M → Type 0
@@ -81,7 +81,7 @@ pub record IsBehind {M : Type 0} (of : Meanings M) (m : M) (x y : Ports) (given 
   pub wrote : WrotePrefix (of.wrote m) (text_meant of m x)
   pub devices : of.devices m given
 
--- a machine that found no memory says so, and is behind
+-- a machine that is out of memory says so, and is behind
 pub record IsStopped {M : Type 0} (of : Meanings M) (m : M) (x y : Ports) (given : Given M) : Type 0 where
   pub behind : IsBehind of m x y given
   pub verdict : of.verdict m ≡ Memory
@@ -91,7 +91,7 @@ abbrev pub GaveAllItems : {M : Type 0} → Meanings M → M → Ports → Ports 
 GaveAllItems of m x y given =
     (port : ℕ) → port < (of.task m).outputs → items_of (y port) ≡ (meant_at of m x given port).items
 
--- a reader may pull after no last pull, where its output has no end and it gave all items so far
+-- a reader may pull while no pull was the last, its output has no end, and it gave all items so far
 pub record MayPull {M : Type 0} (of : Meanings M) (m : M) (x y : Ports) (given : Given M) : Type 0 where
   pub no_input : (of.task m).inputs ≡ 0
   pub one_output : (of.task m).outputs ≡ 1
@@ -112,7 +112,7 @@ pub record MayGive {M : Type 0} (of : Meanings M) (m : M) (x y : Ports) (port : 
   pub unended : has_end (y port) ≡ false
   pub held : (of.task m).holds ≡ true → HaveEnds (of.task m).inputs x
 
--- a machine has ended: all ports have their ends, it gave all, and unless a put failed it wrote all and judges as meant
+-- all ports have their ends, all was given, and unless a put failed all was written and judged as meant
 pub record HasEnded {M : Type 0} (of : Meanings M) (m : M) (x y : Ports) (given : Given M) : Type 0 where
   pub took_ends : HaveEnds (of.task m).inputs x
   pub gave_ends : HaveEnds (of.task m).outputs y

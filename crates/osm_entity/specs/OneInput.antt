@@ -13,8 +13,7 @@ use Rattle.osm_entity.specs.declared.stream.Want.TheVariants.{Pull, Take, Give, 
 use Rattle.osm_entity.specs.declared.verdict.Verdict.{Verdict}
 use Rattle.osm_entity.specs.declared.verdict.Verdict.TheVariants.{Running}
 
--- machines of one input and one output: the rule of each, how it ends, the messages that it stands for, what it wants,
--- its verdict, whether it holds all until its input ends, and how many messages it can give with no more input
+-- machines of one input and one output: their rule, how they end, and whether they hold all until then
 pub record OneInput (M : Type 0) : Type 1 where
   pub rule : M → Stream → Stream
   pub finish : M → Stream → Finish

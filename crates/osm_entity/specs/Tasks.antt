@@ -8,8 +8,7 @@ use Rattle.osm_entity.specs.Streams.{Stream}
 use Rattle.osm_entity.specs.declared.verdict.Verdict.{Verdict}
 use Rattle.osm_entity.specs.declared.verdict.Verdict.TheVariants.{Clean, Passed, Input, TooLong, Read}
 
--- a task: its ports and limit; what it gives, writes and ends as, by bytes, whether their end came, and input streams;
--- from which port it may take, by what it took; and whether it holds all that it gives until its inputs end
+-- a task: its ports and limit, what it gives, writes and ends as, and from which port it may take
 pub record TaskMeaning : Type 0 where
   pub inputs : ℕ
   pub outputs : ℕ

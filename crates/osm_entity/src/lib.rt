@@ -15,8 +15,6 @@ mod sequence;
 mod steps;
 mod storage;
 mod stream;
-#[cfg(test)]
-mod tests;
 mod text;
 mod verdict;
 mod weighing;

@@ -1,4 +1,4 @@
--- A row pushed for a name, or no row where memory was out: what the names and the counts are then.
+-- A row pushed for a name, or no row out of memory: what the names and the counts are then.
 use Rattle.std.proofs.Common.{◌≡◌, ℕ, List, [], ◌∷◌, ◌++◌, ◌⊎◌, sym, subst, ◌∙◌, refl, ap, inl, inr}
 use Rattle.std.proofs.lemmas.List.{map-append}
 use Rattle.std.proofs.lemmas.List.Elements.{Contains-append_left, Contains-push, Contains-push_cases}

@@ -53,7 +53,7 @@ abbrev pub PullGives : Result ℕ Failure → List ℕ → Option (List ℕ) →
 PullGives (Ok n) buf before now = before ≡ prepend_known (take n buf) now
 PullGives (Err e) buf before now = now ≡ before
 
--- a put adds its piece; after a failure a prefix of it, and nothing where memory was out
+-- a put adds its piece; after a failure a prefix of it, and nothing out of memory
 abbrev pub PutTakes : {T : Type 0} → Result T HostError → List ℕ → Option (List ℕ) → Option (List ℕ) → Type 0
 PutTakes (Ok x) piece before now = now ≡ append_known before piece
 PutTakes (Err Failed) piece before now = (k : ℕ) × (k ≤ length piece) × (now ≡ append_known before (take k piece))

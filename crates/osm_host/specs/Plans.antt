@@ -25,13 +25,13 @@ nearer op name f = record {
 abbrev pub after_call : Op → List ℕ → List FailAt → List FailAt
 after_call op name fails = map (nearer op name) fails
 
--- after a call the kth from now was the one after the kth before, for its kind on its name, and the kth for all others
+-- after a call, the kth call from now of its kind and name was the (k+1)th before; all others keep their place
 abbrev pub CallsComeNearer : Type 0
 CallsComeNearer =
     (op o : Op) (name n : List ℕ) (k : ℕ) (fails : List FailAt) → 0 < k →
     is_planned o n k (after_call op name fails) ≡ is_planned o n (if is_at op name o n then k + 1 else k) fails
 
--- a call fails where this says so and nowhere else, unless memory was out
+-- a call fails where this says so and nowhere else, unless it is out of memory
 abbrev pub FailsWhere : {T : Type 0} → Bool → Result T HostError → Type 0
 FailsWhere fails (Ok x) = fails ≡ false
 FailsWhere fails (Err Failed) = fails ≡ true

@@ -6,8 +6,6 @@ mod memory;
 mod naming;
 mod outside;
 mod tallies;
-#[cfg(test)]
-mod tests;
 
 pub use feed::{Feed, PIECE_SIZE};
 pub use memory::{

@@ -26,7 +26,7 @@ pub enum HostError {
     /// A device failed.
     #[error("failed")]
     Failed,
-    /// There was no memory for it.
+    /// Out of memory.
     #[error("out of memory")]
     Memory,
 }

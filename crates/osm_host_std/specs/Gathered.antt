@@ -18,7 +18,7 @@ abbrev pub GathersPrefix : {F : Type 0} → (F → Option (List ℕ)) → Gather
 GathersPrefix contents before now bytes =
     AppendsPrefix (contents before.output.file) (contents now.output.file) (before.gathered.items ++ bytes)
 
--- no write failed, and a file holds all that was held: nothing that was gathered is left unwritten
+-- no write failed, and there is a file with all bytes that were held; which one it is isn't told
 pub record IsWrittenOut {F : Type 0} (contents : F → Option (List ℕ)) (gatherer : Gatherer F) : Type 0 where
   pub sound : write_failed gatherer ≡ false
   pub written : (file : F) × Appends (held contents gatherer) (contents file) []

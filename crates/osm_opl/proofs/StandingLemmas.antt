@@ -21,11 +21,17 @@ use Rattle.osm_host.specs.Feeds.{MayCome, reached_end, verdict_after}
 use Rattle.osm_host.specs.declared.feed.Feed.TheVariants.{Open}
 use Rattle.osm_host.proofs.FeedLemmas.{may_end, take-limit, verdict_settled}
 use Rattle.osm_opl.specs.Reader.{ReaderValue, WantsPull}
-use Rattle.osm_opl.specs.Passing.{HasNoLine, SameRest, TakesLine, is_bad, item_in, items_in, passed}
+use Rattle.osm_opl.specs.Passing.{HasNoLine, SameRest, TakesLine, is_bad, item_in, passed}
 use Rattle.osm_opl.specs.Standing.{GaveItems, Stands, reading_from, reader_reading}
 use Rattle.osm_opl.specs.Unread.{UnreadValue, HasNoNewline, unread_bytes}
 use Rattle.osm_opl.proofs.KeepingLemmas.{held_all, settled_is}
 use Rattle.osm_opl.proofs.ReadingLemmas.{only, opl_reading-from, reading_from-none, is_line-open}
+
+-- the items that a line says
+abbrev pub items_in : LineValue → List ItemValue
+items_in Skipped = []
+items_in (Good item) = item ∷ []
+items_in (Bad cause) = []
 
 -- a new reader stands for nothing
 pub new_stands : (r : ReaderValue) → r.given ≡ 0 → r.feed ≡ Open → r.lines ≡ 0 →
@@ -253,11 +259,10 @@ gives_all r bytes came items s wants =
 -- what a reader gave is before the reading of what came
 pub before_now : (r : ReaderValue) (bytes : List ℕ) (came : Bool) (items : List ItemValue) → Stands r bytes came items →
     IsBefore (record { items = items; end = Broken }) (stream_read (reader_reading r bytes came))
-before_now r bytes came items s =
-    record {
-      items = gives_first r bytes came items s;
-      done = λ done. let no : Broken ≡ Done = done in cc;
-    }
+before_now r bytes came items s = record {
+  items = gives_first r bytes came items s;
+  done = λ done. let no : Broken ≡ Done = done in cc;
+}
 
 -- the first of bytes and more
 take-parts : (n : ℕ) (bytes more : List ℕ) →

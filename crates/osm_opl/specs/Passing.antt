@@ -23,19 +23,13 @@ item_in Skipped = None
 item_in (Good item) = Some item
 item_in (Bad cause) = None
 
--- the items that a line says
-abbrev pub items_in : LineValue → List ItemValue
-items_in Skipped = []
-items_in (Good item) = item ∷ []
-items_in (Bad cause) = []
-
 -- a reader that passed the line which came off: a bad one ends it
 abbrev pub passed : LineValue → ReaderValue → ReaderValue
 passed Skipped r = record r { lines = r.lines + 1 }
 passed (Good item) r = record r { lines = r.lines + 1 }
 passed (Bad cause) r = record r { verdict = Input cause (Line (r.lines + 1)) }
 
--- a line came off the unread bytes; after a bad one nothing counts that comes yet
+-- a line came off, and the reading is what it says and then that of the rest; of a bad line only where no more comes
 pub record TakesLine (old new : ReaderValue) (value : LineValue) : Type 0 where
   pub same : new ≡ record old { unread = new.unread }
   pub shorter : length (unread_bytes new.unread) < length (unread_bytes old.unread)

@@ -45,7 +45,7 @@ pub record WantsPull (r : ReaderValue) : Type 0 where
   pub passed : r.unread.piece ≡ []
   pub holds : IsUnread r.unread
 
--- what a reader keeps while it gives items: all that the source has to do with; it never has more to read
+-- its flow, its limit and what came of its source stay; what is unread never grows
 pub record SameSource (old new : ReaderValue) : Type 0 where
   pub flow : new.flow ≡ old.flow
   pub limit : new.limit ≡ old.limit

@@ -6,8 +6,6 @@
 
 mod laws;
 mod reading;
-#[cfg(test)]
-mod tests;
 mod unread;
 mod writing;
 

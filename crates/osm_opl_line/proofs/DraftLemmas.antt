@@ -10,9 +10,21 @@ use Rattle.osm_entity.specs.declared.kind.Kind.TheVariants.{Node as OfNode, Way 
 use Rattle.osm_entity.specs.declared.verdict.Cause.{Cause}
 use Rattle.osm_entity.specs.declared.verdict.Cause.TheVariants.{BadField, TwiceField}
 use Rattle.osm_opl_line.specs.Cut.{weighed}
-use Rattle.osm_opl_line.specs.Draft.{Fills, IsDraft, IsSlot, draft_fault, fields_drafted, list_drafted, slot_of}
-use Rattle.osm_opl_line.specs.Fields.{content_fault, field, fields_from, is_letter_of, list_field, piece_fault}
+use Rattle.osm_opl_line.specs.Draft.{Fills, draft_fault, fields_drafted, list_drafted, slot_of}
+use Rattle.osm_opl_line.specs.Fields.{content_fault, fault_among, field, fields_from, is_letter_of, is_one_of, list_field, piece_fault}
 use Rattle.osm_opl_line.specs.declared.draft.Draft.{Draft}
+
+-- a slot has the content that its letter had among the pieces before `rest`, whose letters are the earlier ones
+pub record IsSlot (letter : ℕ) (whole : List (List ℕ)) (earlier : List ℕ) (rest : List (List ℕ))
+    (slot : Option (List ℕ)) : Type 0 where
+  pub found : field letter whole ≡ option_or slot (field letter rest)
+  pub taken : is_one_of earlier letter ≡ is_some slot
+
+-- a draft has what the pieces before `rest` said, none of which had a fault
+pub record IsDraft (kind : Kind) (whole : List (List ℕ)) (earlier : List ℕ) (rest : List (List ℕ)) (draft : Draft)
+    : Type 0 where
+  pub fault : fault_among kind [] whole ≡ fault_among kind earlier rest
+  pub slots : (letter : ℕ) → IsSlot letter whole earlier rest (slot_of draft letter)
 
 -- a content that can't be weighed has that fault
 pub result_err-weighed : {T : Type 0} (weight : T → ℕ) (says : Result T Cause) (cause : Cause) →

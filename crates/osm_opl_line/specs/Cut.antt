@@ -40,7 +40,7 @@ abbrev pub IsFine : {T : Type 0} → (List ℕ → Result T Cause) → Option (L
 IsFine says None = ⊤
 IsFine says (Some content) = IsUtf8 content × IsOk (says content)
 
--- the list of a way has no fault, nor has that of a relation
+-- a way's refs or a relation's members have no fault, and a node has no list
 abbrev pub IsFineList : Kind → Option (List ℕ) → Type 0
 IsFineList Node content = content ≡ None
 IsFineList Way content = IsFine refs_in content

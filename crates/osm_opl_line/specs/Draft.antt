@@ -100,18 +100,6 @@ pub record Fills (letter : ℕ) (content : List ℕ) (old new : Draft) : Type 0 
   pub others : (other : ℕ) → (other == letter) ≡ false → slot_of new other ≡ slot_of old other
   pub read : IsRead old → IsRead new
 
--- a slot has the content that its letter had among the pieces before `rest`, whose letters are the earlier ones
-pub record IsSlot (letter : ℕ) (whole : List (List ℕ)) (earlier : List ℕ) (rest : List (List ℕ))
-    (slot : Option (List ℕ)) : Type 0 where
-  pub found : field letter whole ≡ option_or slot (field letter rest)
-  pub taken : is_one_of earlier letter ≡ is_some slot
-
--- a draft has what the pieces before `rest` said, none of which had a fault
-pub record IsDraft (kind : Kind) (whole : List (List ℕ)) (earlier : List ℕ) (rest : List (List ℕ)) (draft : Draft)
-    : Type 0 where
-  pub fault : fault_among kind [] whole ≡ fault_among kind earlier rest
-  pub slots : (letter : ℕ) → IsSlot letter whole earlier rest (slot_of draft letter)
-
 -- what a line says, as it was cut
 abbrev pub answer_of : Result (Option Line) Cause → LineValue
 answer_of (Ok None) = Skipped

@@ -15,8 +15,6 @@ mod parting;
 mod parts;
 mod pieces;
 mod reading;
-#[cfg(test)]
-mod tests;
 mod weighing;
 mod writing;
 

@@ -5,6 +5,10 @@ ghost use Rattle.osm_opl_line.specs.Fields.{is_blank, pieces};
 
 use memchr::memchr2;
 
+/// How many bytes are looked at one by one. Most fields end within them, and the search that takes
+/// many bytes at a time takes as long as that for its first.
+const NEAR: usize = 16;
+
 /// The letter that begins the first piece, its content, and the bytes after it; `None` where there
 /// is no piece.
 pub(crate) fn next_piece(bytes: &[u8]) -> Option<(u8, &[u8], &[u8])>
@@ -54,7 +58,21 @@ fn cut_at_blank(bytes: &[u8]) -> (&[u8], &[u8])
 fn position_of_blank(bytes: &[u8]) -> Option<usize>
     ensures { result ≡ position is_blank bytes.now }
 {
-    memchr2(b' ', b'\t', bytes)
+    let near = bytes.len().min(NEAR);
+    match position_one_by_one(&bytes[..near]) {
+        Some(at) => Some(at),
+        None => match memchr2(b' ', b'\t', &bytes[near..]) {
+            Some(at) => Some(near + at),
+            None => None,
+        },
+    }
+}
+
+// The same, where each byte is looked at alone.
+fn position_one_by_one(bytes: &[u8]) -> Option<usize>
+    ensures { result ≡ position is_blank bytes.now }
+{
+    bytes.iter().position(|byte| is_space(*byte))
 }
 
 // A space or a tab.

@@ -1,11 +1,11 @@
 -- Lemmas on counts of faults, over the calls of a copy.
-use Rattle.std.proofs.Common.{◌≡◌, ℕ, zero, suc, ◌+◌, ◌-◌, ◌^◌, ◌≤◌, min, max, List, [], ◌∷◌, length, Bool, true, false, cond, ◌&&◌, ◌||◌, refl, sym, ap, subst, ◌∙◌, arith}
+use Rattle.std.proofs.Common.{◌≡◌, ℕ, zero, suc, ◌+◌, List, length, Bool, true, false, cond, ◌&&◌, ◌||◌, refl, sym, ap, subst, ◌∙◌, arith}
 use Rattle.std.specs.Prelude.{Ok, Err, ◌==◌}
 use Rattle.std.specs.Str.{bytes_eq}
 use Rattle.std.specs.declared.result.Result.{Result}
 use Rattle.std.proofs.lemmas.Bool.{and_parts, eqb-true}
 use Rattle.std.proofs.lemmas.Slice.Eq.{bytes_eq-Decides}
-use Rattle.osm_host.specs.Counts.{Counts, SameCounts, CountsOfCall, CountsRefusal, Adds, KeepCounts, GaveOnly, Rises, raised, is_at, op_number}
+use Rattle.osm_host.specs.Counts.{Counts, SameCounts, CountsOfCall, CountsRefusal, Adds, KeepCounts, GaveOnly, raised, is_at, op_number}
 use Rattle.osm_host.specs.declared.outside.HostError.{HostError}
 use Rattle.osm_host.specs.declared.outside.HostError.TheVariants.{Failed, Memory}
 use Rattle.osm_host.specs.declared.outside.Op.{Op}
@@ -119,7 +119,8 @@ any_faults zero = refl
 any_faults (suc n) = record { later = omega arith; rose = omega arith }
 
 -- where no call of a kind failed at either file of a copy, its count stays
-neither_by : (x y : Bool) (before now : ℕ) → now ≡ before → CountsBy ((x && false) || ((y && false) || false)) before now
+neither_by : (x y : Bool) (before now : ℕ) → now ≡ before →
+    CountsBy ((x && false) || ((y && false) || false)) before now
 neither_by true true before now is = is
 neither_by true false before now is = is
 neither_by false true before now is = is

@@ -1,5 +1,5 @@
 -- Lemmas on the fault of a copy, and on how its reading ended.
-use Rattle.std.proofs.Common.{◌≡◌, ◌<◌, ◌≤◌, ℕ, List, [], ◌∷◌, ◌++◌, length, Bool, true, false, refl, inl, inr}
+use Rattle.std.proofs.Common.{◌≡◌, ◌<◌, ◌≤◌, ℕ, [], ◌∷◌, ◌++◌, length, Bool, true, false, refl, inl, inr}
 use Rattle.std.specs.Prelude.{◌⊎◌, nat_lt, if◌then◌else◌}
 use Rattle.std.proofs.lemmas.Bool.{ltb-true, ltb-false}
 use Rattle.osm_entity.specs.Meaning.{finish_read, finish_after}
@@ -44,8 +44,8 @@ size_test x y true is = inl (ltb-true x y is)
 size_test x y false is = inr (ltb-false x y is)
 
 -- how the reading of a copy's source ended
-pub how_read : (c : Course) (ending : Ending) (b : Bool) → c.clean 0 ≡ b → (c.clean 0 ≡ true → c.failed Pull 0 ≡ false) →
-    (c.clean 0 ≡ true → length (c.given 0) ≤ source_limit) →
+pub how_read : (c : Course) (ending : Ending) (b : Bool) → c.clean 0 ≡ b →
+    (c.clean 0 ≡ true → c.failed Pull 0 ≡ false) → (c.clean 0 ≡ true → length (c.given 0) ≤ source_limit) →
     (ending ≡ Cut → length (c.given 0) ≤ source_limit → c.failed Pull 0 ≡ true) →
     (source_limit < length (c.given 0) → c.failed Pull 0 ≡ false) → (c.clean 0 ≡ false → ending ≡ Whole → ⊥) →
     HowRead c 0 source_limit (finish_read ending)

@@ -1,10 +1,10 @@
 -- Lemmas on what files, sources and sinks hold, over the calls of a copy.
-use Rattle.std.proofs.Common.{◌≡◌, ℕ, List, [], ◌∷◌, ◌++◌, take, Bool, true, false, cond, refl, sym, ap, subst, ◌∙◌, inr}
+use Rattle.std.proofs.Common.{◌≡◌, ℕ, List, [], take, Bool, true, false, cond, refl, sym, ap, subst, ◌∙◌, inr}
 use Rattle.std.specs.Prelude.{Option, Some, None, Ok, Err}
 use Rattle.std.specs.FinMap as finite
 use Rattle.std.specs.FinMap.{get-insert}
 use Rattle.std.specs.Cmp.Lexicographic.{nat_list_cmp_total}
-use Rattle.std.specs.Io.KnownBytes.{prepend_known, append_known, IsAtEnd}
+use Rattle.std.specs.Io.KnownBytes.{prepend_known, IsAtEnd}
 use Rattle.std.specs.Str.{bytes_eq}
 use Rattle.std.specs.declared.result.Result.{Result}
 use Rattle.std.proofs.lemmas.Map.Text.{is_eq-slice_cmp}
@@ -67,8 +67,8 @@ own_file files name bytes true taken took kept is =
     (took.0, get-set_own files name kept ∙ sym is ∙ took.2)
 own_file files name bytes false taken took kept is = get-set_own files name kept ∙ sym is ∙ took
 
-taken_is_told : (bytes : List ℕ) (put_failed : Bool) (taken : Option (List ℕ)) → TakenBy put_failed bytes (Some []) taken →
-    (kept : List ℕ) × (taken ≡ Some kept)
+taken_is_told : (bytes : List ℕ) (put_failed : Bool) (taken : Option (List ℕ)) →
+    TakenBy put_failed bytes (Some []) taken → (kept : List ℕ) × (taken ≡ Some kept)
 taken_is_told bytes true taken took = (take took.0 bytes, took.2)
 taken_is_told bytes false taken took = (bytes, took)
 
@@ -89,7 +89,8 @@ kept_ok m name bytes put_failed taken after took kept is told = (
 
 -- a keep that failed, where files are told
 kept_failed : (m : Files) (name bytes : List ℕ) (put_failed : Bool) (after : Option Files) →
-    SameBut name (Some (finite.insert m name [])) after → WhereTold (Some m) after (KeptFiles bytes name put_failed true)
+    SameBut name (Some (finite.insert m name [])) after →
+    WhereTold (Some m) after (KeptFiles bytes name put_failed true)
 kept_failed m name bytes put_failed after same = (
   same.0,
   same.1,
@@ -113,9 +114,11 @@ files_after_keep (Some m) f2 f3 f4 name bytes put_failed empty taken (Ok x) made
     let told : (k : List ℕ) × (taken ≡ Some k) = taken_is_told bytes put_failed taken took_so in
     let becomes : f4 ≡ set_file name told.0 f3 = subst (λ o. KeepsFile (Ok x) name o f3 f4) told.1 keeps in
     kept_ok m name bytes put_failed taken f4 took_so told.0 told.1 (becomes ∙ ap (set_file name told.0) (closed ∙ made))
-files_after_keep (Some m) f2 f3 f4 name bytes put_failed empty taken (Err Failed) made closed fresh took keeps no_memory =
+files_after_keep (Some m) f2 f3 f4 name bytes put_failed empty taken (Err Failed) made closed fresh took keeps
+    no_memory =
     kept_failed m name bytes put_failed f4 (subst (λ o. SameBut name o f4) (closed ∙ made) keeps)
-files_after_keep (Some m) f2 f3 f4 name bytes put_failed empty taken (Err Memory) made closed fresh took keeps no_memory =
+files_after_keep (Some m) f2 f3 f4 name bytes put_failed empty taken (Err Memory) made closed fresh took keeps
+    no_memory =
     absurd (no_memory refl)
 
 others_of_set : (m : Files) (name bytes : List ℕ) (after : Option Files) →

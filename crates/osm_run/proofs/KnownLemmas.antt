@@ -1,6 +1,6 @@
 -- Lemmas on the names that a host knows, over the opens of a copy.
 use Rattle.std.proofs.Common.{◌≡◌, ℕ, List, [], ◌∷◌, ◌++◌, Bool, true, false, refl, sym, ap, subst, ◌∙◌, append_assoc}
-use Rattle.std.specs.Prelude.{◌⊎◌, ◌↔◌, Contains, Ok, Err}
+use Rattle.std.specs.Prelude.{◌⊎◌, Contains, Err}
 use Rattle.std.proofs.Common.{inl, inr}
 use Rattle.std.specs.List.{list_any}
 use Rattle.std.specs.Str.{bytes_eq}

@@ -1,5 +1,5 @@
 -- The outcome of a copy that ended before its tasks ran.
-use Rattle.std.proofs.Common.{◌≡◌, ℕ, List, [], ◌∷◌, ◌++◌, Bool, true, false, ◌&&◌, ◌||◌, refl, sym, ap, subst, ◌∙◌, inl, inr}
+use Rattle.std.proofs.Common.{◌≡◌, ℕ, List, [], ◌∷◌, ◌++◌, true, false, refl, sym, ap, subst, ◌∙◌, inl, inr}
 use Rattle.std.specs.Prelude.{Ok, Err, is_err, OnOk, OnErr, ◌⊎◌, flat_map, sum_by}
 use Rattle.std.specs.List.{AllByRecursion}
 use Rattle.std.specs.declared.result.Result.{Result}
@@ -8,7 +8,6 @@ use Rattle.osm_host.specs.Moments.{Moment}
 use Rattle.osm_host.specs.Names.{KnownByCall}
 use Rattle.osm_host.specs.declared.outside.HostError.{HostError}
 use Rattle.osm_host.specs.declared.outside.HostError.TheVariants.{Failed, Memory as HostMemory}
-use Rattle.osm_host.specs.declared.outside.Op.{Op}
 use Rattle.osm_host.specs.declared.outside.Op.TheVariants.{Open, Make}
 use Rattle.osm_run.specs.Plan.{Source, Sink, Use, names_of}
 use Rattle.osm_run.specs.Copying.{copy_command}
@@ -23,7 +22,7 @@ use Rattle.osm_run.specs.declared.status.Status.{Status}
 use Rattle.osm_run.proofs.CopyCourse.{at_rest, both_files, counts_of_none, counts_of_sink, counts_of_source, gave_none, gave_none_both, gave_none_source, none_failed, one_failed, rest_course, sink_gives, source_file, source_rests}
 use Rattle.osm_run.proofs.CountLemmas.{counts_by_failure, counts_kept_at_memory}
 use Rattle.osm_run.proofs.FileLemmas.{files_same}
-use Rattle.osm_run.proofs.KnownLemmas.{known_at_memory, known_by_open, same_names-nil, same_names-push, same_names-self, same_names-then, same_names-trans}
+use Rattle.osm_run.proofs.KnownLemmas.{known_at_memory, known_by_open, same_names-nil, same_names-self, same_names-then, same_names-trans}
 
 -- what holds after an error
 pub at_err : {T E P : Type 0} (r : Result T E) → is_err r ≡ true → OnErr r P → P
@@ -68,7 +67,8 @@ module _ (a b : List ℕ) (before after : Moment) (status : Status) (fault : sta
         });
       }
 
-  pub memory_at_none : status.ends ≡ [] → SameNames after.known before.known → IsRun (copy_command a b) before after status
+  pub memory_at_none : status.ends ≡ [] → SameNames after.known before.known →
+      IsRun (copy_command a b) before after status
   memory_at_none ends known =
       memory_before [] (both_files a b) refl tt (λ n. gave n ∙ gave_none (before.gave n))
       (same_names-nil after.known before.known known) (inr (ends, tt))

@@ -3,9 +3,8 @@ use Rattle.std.proofs.Common.{◌≡◌, ℕ, ◌<◌, ◌≤◌, List, [], ◌�
 use Rattle.std.specs.Prelude.{Option, Some, None, Ok, Err, IfOk, OnErr}
 use Rattle.std.specs.FinMap as finite
 use Rattle.std.specs.Str.{bytes_eq}
-use Rattle.std.specs.Io.KnownBytes.{prepend_known, IsAtEnd}
+use Rattle.std.specs.Io.KnownBytes.{IsAtEnd}
 use Rattle.std.specs.declared.result.Result.{Result}
-use Rattle.osm_entity.specs.Meaning.{finish_read}
 use Rattle.osm_entity.specs.Readings.{Reading, Cut, Whole, stream_read, verdict_read}
 use Rattle.osm_entity.specs.declared.kind.Flow.TheVariants.{Entities}
 use Rattle.osm_entity.specs.declared.sequence.NoMemory.{NoMemory}
@@ -17,17 +16,16 @@ use Rattle.osm_host.specs.Names.{KnownByCall}
 use Rattle.osm_host.specs.Pulls.{SourceValue}
 use Rattle.osm_host.specs.declared.outside.HostError.{HostError}
 use Rattle.osm_host.specs.declared.outside.HostError.TheVariants.{Failed, Memory as HostMemory}
-use Rattle.osm_host.specs.declared.outside.Op.{Op}
 use Rattle.osm_host.specs.declared.outside.Op.TheVariants.{Pull}
 use Rattle.osm_run.specs.Copying.{copy_command}
-use Rattle.osm_run.specs.Course.{Course, source_limit, is_cut_short, entries}
+use Rattle.osm_run.specs.Course.{Course, source_limit}
 use Rattle.osm_run.specs.Faults.{entry_of, fault_by, fault_by_verdict}
-use Rattle.osm_run.specs.HowFar.{AfterTasks, FilesAfter, HowRead, IsFileOf, OthersAtMemory, OutOfMemory, Ran, WhereTold}
+use Rattle.osm_run.specs.HowFar.{FilesAfter, IsFileOf, OthersAtMemory, OutOfMemory, Ran, WhereTold}
 use Rattle.osm_run.specs.OnHost.{CountsBy, IsCourse, SameNames}
 use Rattle.osm_run.specs.Outcome.{IsRun}
 use Rattle.osm_run.specs.Pulling.{Pulled, PulledSome}
-use Rattle.osm_run.specs.Reading.{SourceIsRead, reading_of}
-use Rattle.osm_run.specs.Tasks.{TakenBy, TasksRan}
+use Rattle.osm_run.specs.Reading.{reading_of}
+use Rattle.osm_run.specs.Tasks.{TakenBy, ItemsCopied}
 use Rattle.osm_run.specs.declared.copying.Ran.{Ran as RanValue}
 use Rattle.osm_run.specs.declared.status.Fault.TheVariants.{Memory}
 use Rattle.osm_run.specs.declared.status.Status.{Status}
@@ -69,9 +67,9 @@ not_changed true is = is
 not_changed false is = refl
 
 -- what the calls of a copy answered once both files were opened
-pub record Opened {K T A B : Type 0} (s0 s1 : SourceValue) (taken : K → Option (List ℕ)) (faults : K → ℕ) (k0 k1 : K) (a b : List ℕ) (before after : Moment)
-    (f2 f3 : Option Files) (c2 c3 : Counts) (g2 g3 : List ℕ → ℕ) (n1 n2 : List (List ℕ)) (opened_a : A) (opened_b : B)
-    (kept : Result T HostError) : Type 0 where
+pub record Opened {K T A B : Type 0} (s0 s1 : SourceValue) (taken : K → Option (List ℕ)) (faults : K → ℕ) (k0 k1 : K)
+    (a b : List ℕ) (before after : Moment) (f2 f3 : Option Files) (c2 c3 : Counts) (g2 g3 : List ℕ → ℕ)
+    (n1 n2 : List (List ℕ)) (opened_a : A) (opened_b : B) (kept : Result T HostError) : Type 0 where
   pub content : IsContent before.files a s0.rest
   pub fresh : s0.faults ≡ 0
   pub unfailed : faults k0 ≡ 0
@@ -89,10 +87,10 @@ pub record Opened {K T A B : Type 0} (s0 s1 : SourceValue) (taken : K → Option
   pub known_b : KnownByCall b n1 n2 (Ok opened_b)
   pub known : after.known ≡ n2
 
-module _ {K T A B : Type 0} (s0 s1 : SourceValue) (taken : K → Option (List ℕ)) (faults : K → ℕ) (k0 k1 : K) (a b : List ℕ) (before after : Moment)
-    (f2 f3 : Option Files) (c2 c3 : Counts) (g2 g3 : List ℕ → ℕ) (n1 n2 : List (List ℕ)) (opened_a : A) (opened_b : B)
-    (kept : Result T HostError) (status : Status) (h : Opened s0 s1 taken faults k0 k1 a b before
-    after f2 f3 c2 c3 g2 g3 n1 n2 opened_a opened_b kept) where
+module _ {K T A B : Type 0} (s0 s1 : SourceValue) (taken : K → Option (List ℕ)) (faults : K → ℕ) (k0 k1 : K)
+    (a b : List ℕ) (before after : Moment) (f2 f3 : Option Files) (c2 c3 : Counts) (g2 g3 : List ℕ → ℕ)
+    (n1 n2 : List (List ℕ)) (opened_a : A) (opened_b : B) (kept : Result T HostError) (status : Status)
+    (h : Opened s0 s1 taken faults k0 k1 a b before after f2 f3 c2 c3 g2 g3 n1 n2 opened_a opened_b kept) where
   -- the course of a copy whose files were opened
   opened_course : (count : ℕ) (bytes : List ℕ) (clean pull put : Bool) → Pulled s0 s1 count bytes →
       (clean ≡ true → IsAtEnd s1.rest) → CountsBy pull 0 s1.faults → CountsBy put 0 (faults k1) →
@@ -110,12 +108,13 @@ module _ {K T A B : Type 0} (s0 s1 : SourceValue) (taken : K → Option (List �
             h.counts pulls h.pulls puts h.puts;
         gave = gave_after a bytes before.gave g2 g3 after.gave s1.given h.gave pulled.gave h.gives h.gave_kept;
         known = subst (λ ks. SameNames ks (before.known ++ a ∷ b ∷ [])) (sym h.known)
-            (same_names-then a b before.known n1 n2 (known_by_open a before.known n1 (Ok opened_a) h.known_a h.known_a.own)
+            (same_names-then a b before.known n1 n2
+            (known_by_open a before.known n1 (Ok opened_a) h.known_a h.known_a.own)
             (known_by_open b n1 n2 (Ok opened_b) h.known_b h.known_b.own));
       }
 
   -- the tasks ran, and the keep was not out of memory
-  tasks_ran : (count : ℕ) (ran : RanValue) → TasksRan s0 s1 taken faults k0 k1 count ran →
+  tasks_ran : (count : ℕ) (ran : RanValue) → ItemsCopied s0 s1 taken faults k0 k1 count ran →
       (kept ≡ Err HostMemory → ⊥) → status.fault ≡ fault_by (Ok ran) kept →
       status.ends ≡ entry_of count (Ok ran) ∷ [] → IsRun (copy_command a b) before after status
   tasks_ran count ran tasks no_memory fault ends =
@@ -155,8 +154,8 @@ module _ {K T A B : Type 0} (s0 s1 : SourceValue) (taken : K → Option (List �
           ends = ends ∙ ap (λ n. record { task = 0; given = n; clean = ran.clean } ∷ []) counted;
           files = told_more before.files after.files
               (KeptFiles (opl_text (stream_read reading)) b put (has_failed kept)) (FilesAfter (copy_command a b) c)
-              (files_after_keep before.files f2 f3 after.files b (opl_text (stream_read reading)) put (taken k0) (taken k1)
-              kept h.made h.closed h.empty took h.keeps no_memory)
+              (files_after_keep before.files f2 f3 after.files b (opl_text (stream_read reading)) put (taken k0)
+              (taken k1) kept h.made h.closed h.empty took h.keeps no_memory)
               (λ m n held. record {
                 written = (
                   tt,
@@ -192,7 +191,7 @@ module _ {K T A B : Type 0} (s0 s1 : SourceValue) (taken : K → Option (List �
       }
 
   outcome_by : (count : ℕ) (ran : Result RanValue NoMemory) (answer : Result T HostError) → kept ≡ answer →
-      IfOk ran (TasksRan s0 s1 taken faults k0 k1 count) →
+      IfOk ran (ItemsCopied s0 s1 taken faults k0 k1 count) →
       OnErr ran (PulledSome s0 s1 count) → status.fault ≡ fault_by ran answer →
       status.ends ≡ entry_of count ran ∷ [] → IsRun (copy_command a b) before after status
   outcome_by count (Err none) answer same tasks (bytes, pulled) fault ends =
@@ -210,7 +209,7 @@ module _ {K T A B : Type 0} (s0 s1 : SourceValue) (taken : K → Option (List �
 
   -- the outcome of a copy whose files were opened
   pub opened_outcome : (count : ℕ) (ran : Result RanValue NoMemory) →
-      IfOk ran (TasksRan s0 s1 taken faults k0 k1 count) →
+      IfOk ran (ItemsCopied s0 s1 taken faults k0 k1 count) →
       OnErr ran (PulledSome s0 s1 count) → status.fault ≡ fault_by ran kept →
       status.ends ≡ entry_of count ran ∷ [] → IsRun (copy_command a b) before after status
   opened_outcome count ran tasks some fault ends = outcome_by count ran kept refl tasks some fault ends

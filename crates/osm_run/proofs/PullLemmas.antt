@@ -1,6 +1,6 @@
 -- Lemmas on what came from a source.
-use Rattle.std.proofs.Common.{◌≡◌, ℕ, ◌+◌, ◌^◌, ◌<◌, ◌≤◌, List, ◌++◌, length, false, refl, sym, ap, subst, ◌∙◌, arith}
-use Rattle.std.specs.Prelude.{OnErr, Option, Some, None, Ok, Err}
+use Rattle.std.proofs.Common.{◌≡◌, ℕ, ◌+◌, ◌^◌, ◌≤◌, List, ◌++◌, length, false, refl, sym, ap, subst, ◌∙◌, arith}
+use Rattle.std.specs.Prelude.{OnErr, Ok, Err}
 use Rattle.std.specs.declared.result.Result.{Result}
 use Rattle.std.specs.Io.KnownBytes.{prepend_known}
 use Rattle.std.proofs.lemmas.List.{length-append}
@@ -75,8 +75,8 @@ pulled-bytes before mid now count old pulled items p can once =
     let few = pulled-few before mid count old items p can in
     let same : old.given ≡ count =
     p.stands.count ∙ raised-none (length p.bytes) few ∙ sym p.pulled.counted in
-    pulled_more before mid now count pulled.given p.bytes once.bytes p.pulled once.gave.source.told once.gave.source.counted
-    (rw same at once.gave.counted) few once.gave.small
+    pulled_more before mid now count pulled.given p.bytes once.bytes p.pulled once.gave.source.told
+    once.gave.source.counted (rw same at once.gave.counted) few once.gave.small
 
 -- one more pull, whose piece was taken apart
 pub pulled-on : (before mid now : SourceValue) (count : ℕ) (old pulled new : ReaderValue)

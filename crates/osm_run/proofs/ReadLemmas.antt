@@ -1,6 +1,6 @@
 -- Lemmas on a source that was read.
 use Rattle.std.proofs.Common.{◌≡◌, ◌≢◌, ℕ, ◌+◌, ◌<◌, ◌≤◌, List, [], ◌∷◌, length, take, Bool, true, false, refl, sym, ap, subst, ◌∙◌, arith}
-use Rattle.std.specs.Prelude.{Option, ◌==◌}
+use Rattle.std.specs.Prelude.{◌==◌}
 use Rattle.std.specs.List.{slice_split}
 use Rattle.osm_entity.specs.Items.{ItemValue}
 use Rattle.osm_entity.specs.declared.kind.Flow.{Flow}
@@ -14,13 +14,13 @@ use Rattle.osm_opl_line.specs.Reading.{before, lines_of, read_lines, opl_reading
 use Rattle.osm_host.specs.Feeds.{FaultsOfPull, FitsFeed, reached_end}
 use Rattle.osm_host.specs.Pulls.{SourceValue}
 use Rattle.osm_opl.specs.Reader.{ReaderValue}
-use Rattle.osm_opl.specs.Standing.{Stands, reader_reading}
+use Rattle.osm_opl.specs.Standing.{reader_reading}
 use Rattle.osm_host.specs.declared.feed.Feed.{Feed}
 use Rattle.osm_host.specs.declared.feed.Feed.TheVariants.{Open, Ended, Failed, TooLong}
 use Rattle.osm_host.proofs.FeedLemmas.{reached_end-true}
 use Rattle.osm_run.specs.Course.{source_limit}
 use Rattle.osm_run.specs.OnHost.{CountsBy}
-use Rattle.osm_run.specs.Reading.{IsPulled, IsReadOut, ItemsRead, SourceIsRead, reading_of}
+use Rattle.osm_run.specs.Reading.{IsReadOut, ItemsRead, reading_of}
 
 -- one more line gives no reading an ending that it hadn't, but a bad one
 not_before : (ending : Ending) → ((cause : Cause) (spot : Spot) → BadAt cause spot ≡ ending → ⊥) → (number : ℕ)

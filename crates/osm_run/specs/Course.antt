@@ -22,7 +22,7 @@ source_limit = 2 ^ 40
 abbrev pub polygon_limit : ℕ
 polygon_limit = 2 ^ 24
 
--- what happened: the files opened or tried, in order; by task the bytes given, their end, the failed calls and stores
+-- what happened in a run: the files opened or tried; by task the bytes, whether their end came, and what failed
 pub record Course : Type 0 where
   pub opened : List Use
   pub given : ℕ → List ℕ

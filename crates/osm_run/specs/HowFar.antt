@@ -97,7 +97,7 @@ IsBeforeSinks c (task, Source name) = IsAtRest c task
 IsBeforeSinks c (task, Sink name) = ⊥
 IsBeforeSinks c (task, file) = ⊤
 
--- whether this file may change out of memory: a writer's before a place in command order, or one whose keep failed
+-- whether a name may have changed out of memory: of a sink of a task before this number, or of one whose keep failed
 abbrev pub may_change : Course → ℕ → List ℕ → Use → Bool
 may_change c place n (task, Sink name) = bytes_eq n name && (nat_lt task place || c.failed Keep task)
 may_change c place n (task, file) = false

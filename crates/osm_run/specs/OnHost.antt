@@ -1,6 +1,6 @@
 -- A course as a host shows it: its files in their order, their bytes, and the counts that rose.
 -- Here all calls of a run are told at once by two moments of the host; the code makes them one by one.
-use Rattle.std.specs.Prelude.{ℕ, ◌≡◌, ◌⊎◌, ◌↔◌, List, [], ◌++◌, sum_by, Bool, true, false, Option, Some, None, Contains, ⊤, flat_map}
+use Rattle.std.specs.Prelude.{ℕ, ◌≡◌, ◌⊎◌, ◌↔◌, List, [], ◌++◌, sum_by, Bool, true, false, Option, Some, Contains, ⊤, flat_map}
 use Rattle.std.specs.FinMap as finite
 use Rattle.std.specs.List.{AllByRecursion}
 use Rattle.osm_host.specs.Contents.{Files}

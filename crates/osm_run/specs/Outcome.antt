@@ -31,7 +31,7 @@ pub record AfterRefusal (refused : Fault → Type 0) (before after : Moment) (st
   pub ends : status.ends ≡ []
   pub same : IsUnchanged before after
 
--- this text was said in order where no call failed that said it; where it is empty, no call was made
+-- this text was added to what was said, where no call that said it failed; an empty text changes nothing
 pub record IsSaid (text : List ℕ) (before after : Moment) : Type 0 where
   pub silent : text ≡ [] → (after.said ≡ before.said) × (after.mute ≡ before.mute)
   pub later : before.mute ≤ after.mute

@@ -15,8 +15,8 @@ abbrev pub TakenBy : Bool → List ℕ → Option (List ℕ) → Option (List �
 TakenBy false bytes before now = now ≡ append_known before bytes
 TakenBy true bytes before now = TakesPrefix bytes before now
 
--- the reader of a copy was read, and the lines of its items were put
-pub record TasksRan {K : Type 0} (before now : SourceValue) (taken : K → Option (List ℕ)) (faults : K → ℕ)
+-- the items of a source were copied: it was read, and the lines of its items were put
+pub record ItemsCopied {K : Type 0} (before now : SourceValue) (taken : K → Option (List ℕ)) (faults : K → ℕ)
     (empty full : K) (count : ℕ) (r : Ran) : Type 0 where
   pub reading : Reading
   pub read : SourceIsRead before now count r.clean r.reader reading

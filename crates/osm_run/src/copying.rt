@@ -5,7 +5,7 @@ ghost use Rattle.osm_host.specs.Pulls.{source_value};
 ghost use Rattle.osm_run.specs.Copying.{copy_command};
 ghost use Rattle.osm_run.specs.Outcome.{IsRun};
 ghost use Rattle.osm_run.specs.Pulling.{PulledSome};
-ghost use Rattle.osm_run.specs.Tasks.{TasksRan};
+ghost use Rattle.osm_run.specs.Tasks.{ItemsCopied};
 ghost use Rattle.osm_run.specs.Faults.{opening_fault, entry_of, fault_by, fault_before};
 ghost use Rattle.osm_run.specs.Codes.{code_of};
 
@@ -39,7 +39,7 @@ fn copy_items<S: Source, K: Sink>(
     requires zero { given.old ≡ 0 }
     ensures source_name { S.name source.new ≡ S.name source.old }
     ensures sink_name { K.name sink.new ≡ K.name sink.old }
-    ensures ran { IfOk result (TasksRan
+    ensures ran { IfOk result (ItemsCopied
         (source_value S.rest S.given S.faults source.old)
         (source_value S.rest S.given S.faults source.new)
         K.taken K.faults sink.old sink.new given.new) }

@@ -99,7 +99,7 @@ impl Host for MemoryHost {
         self.tallies.give(name, source.place as u64);
     }
 
-    /// `Failed` exactly where this call is one that fails, unless memory was out.
+    /// `Failed` exactly where this call is one that fails, unless it is out of memory.
     fn open_sink(&mut self, name: &Text) -> Result<MemorySink, HostError>
         ensures name { IfOk result (λ k. k.name ≡ name.now) }
         ensures taken { IfOk result (λ k.
@@ -133,8 +133,8 @@ impl Host for MemoryHost {
         Ok(sink)
     }
 
-    /// `Failed` exactly where this call is one that fails, unless memory was out; no file changed
-    /// then.
+    /// `Failed` exactly where this call is one that fails, unless it is out of memory; no file
+    /// changed then.
     fn keep(&mut self, name: &Text, sink: MemorySink) -> Result<(), HostError>
         requires known { Contains (moment_of self.old).known name.now }
         requires name { sink.name ≡ name.now }

@@ -1,6 +1,7 @@
 use Rattle.std.proofs.Common.{ℕ, List, ◌≤◌, length}
 use Rattle.std.specs.Str.{IsUtf8}
-use Rattle.osm_opl_line.specs.Draft.{IsDraft, IsRead}
+use Rattle.osm_opl_line.specs.Draft.{IsRead}
+use Rattle.osm_opl_line.proofs.DraftLemmas.{IsDraft}
 use Rattle.osm_opl_line.specs.Fields.{pieces}
 use Rattle.osm_opl_line.specs.Line.{longest_line}
 use Rattle.osm_opl_line.proofs.cutting.take_fields.Given as goal

@@ -1,4 +1,4 @@
-use Rattle.std.proofs.Common.{◌∙◌, ap, sym, subst, refl, [], ◌∷◌, ◌++◌, slice_set, Err}
+use Rattle.std.proofs.Common.{◌∙◌, ap, sym, subst, [], ◌∷◌, ◌++◌, slice_set, Err}
 use Rattle.osm_host.specs.Contents.{IsEmptyWhereTold, set_file}
 use Rattle.osm_host.specs.Counts.{Adds, GaveOnly}
 use Rattle.osm_host.specs.Moments.{moment}

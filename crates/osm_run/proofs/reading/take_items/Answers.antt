@@ -1,4 +1,4 @@
-use Rattle.std.proofs.Common.{List, [], subst, sym, ◌∙◌}
+use Rattle.std.proofs.Common.{List, subst, sym, ◌∙◌}
 use Rattle.std.proofs.Math.Nat.{le_trans}
 use Rattle.std.proofs.lemmas.List.{append-nil}
 use Rattle.osm_entity.specs.Items.{ItemValue}

@@ -2,10 +2,9 @@
 ghost use Rattle.std.specs.Prelude.{◌≡◌, ◌≢◌, ◌<◌, IfOk};
 ghost use Rattle.std.specs.List.{AllPairs};
 
-use crate::running::run_alone;
-use crate::status::{DeviceCall, Fault, SourceEnd, Status};
 use osm_entity::{Bytes, Cause, NoMemory, Sequence, Spot, Steps, Text, TextError};
 use osm_host::{FailAt, Fails, FileHeld, Files, Host, MemoryHost, Op};
+use osm_run::{DeviceCall, Fault, SourceEnd, Status, run_alone};
 use std::alloc::Global;
 use std::marker::Brand;
 use std::process::Abort;
@@ -27,8 +26,9 @@ type Content = (&'static [u8], u32);
 /// A call that fails: on which file, of which kind, and the number of the call; at 0 none fails.
 type Failing = (&'static [u8], Op, u64);
 
-/// One run: what it shows, its words, the file `a`, the pieces of its pulls, the call that fails; then
-/// what `b` holds, the fault, and how many bytes the reader's source gave and whether their end came.
+/// One run: what it shows, its words, the file `a`, the pieces of its pulls, the call that fails;
+/// then what `b` holds, the fault, and the reader's entry: how many bytes its source gave, and
+/// whether their end came.
 type Row = (
     &'static str,
     [&'static [u8]; 4],
@@ -88,37 +88,42 @@ fn rows() -> [Row; 28] {
     [
         ("an empty file is copied", COPY, (b"", 1), BOTH, NONE, b"", clean, Some((0, true))),
         ("a node is copied", COPY, NODE, BOTH, NONE, LINE, clean, Some((11, true))),
-        ("digits alone are degrees", COPY, (b"n1 x1 y1\n", 1), BOTH, NONE, digits, clean, Some((9, true))),
-        ("a line without a newline is read", COPY, UNENDED, BOTH, NONE, LINE, clean, Some((10, true))),
-        ("texts are unescaped and escaped", COPY, ESCAPED, BOTH, NONE, ESCAPED_COPY, clean, Some((43, true))),
+        ("digits alone are degrees", COPY, (b"n1 x1 y1\n", 1), BOTH, NONE, digits, clean,
+            Some((9, true))),
+        ("a line without a newline is read", COPY, UNENDED, BOTH, NONE, LINE, clean,
+            Some((10, true))),
+        ("texts are unescaped and escaped", COPY, ESCAPED, BOTH, NONE, ESCAPED_COPY, clean,
+            Some((43, true))),
         ("a way and a relation are copied", COPY, (b"w5\nr6 Mn1@,w5@x%20%y\n", 1), BOTH, NONE,
             PARTS_COPY, clean, Some((21, true))),
-        ("an id is past 64 bits", COPY, (b"n-9223372036854775808 x180 y-90\nn9223372036854775808 x0 y0\n", 1),
-            BOTH, NONE, b"n-9223372036854775808 v0 dV c0 t i0 u T x180 y-90\n", bad(Cause::BadNumber, 2),
+        ("an id is past 64 bits", COPY,
+            (b"n-9223372036854775808 x180 y-90\nn9223372036854775808 x0 y0\n", 1), BOTH, NONE,
+            b"n-9223372036854775808 v0 dV c0 t i0 u T x180 y-90\n", bad(Cause::BadNumber, 2),
             Some((59, false))),
         ("the second pull fails", COPY, UNENDED, (4096, 4096), (b"a", Op::Pull, 2), b"", read,
             Some((10, false))),
         ("the eleventh pull fails", COPY, UNENDED, (1, 1), (b"a", Op::Pull, 11), b"", read,
             Some((10, false))),
-        ("blanks and comments are skipped", COPY, (b"# nodes\n\n \t\nn01 x1.50 y+2\n", 1), BOTH, NONE, LINE,
-            clean, Some((26, true))),
-        ("a second line is bad", COPY, (b"n1 x1.5 y2\nq5\n", 1), BOTH, NONE, LINE, bad(Cause::BadField, 2),
-            Some((14, false))),
+        ("blanks and comments are skipped", COPY, (b"# nodes\n\n \t\nn01 x1.50 y+2\n", 1), BOTH,
+            NONE, LINE, clean, Some((26, true))),
+        ("a second line is bad", COPY, (b"n1 x1.5 y2\nq5\n", 1), BOTH, NONE, LINE,
+            bad(Cause::BadField, 2), Some((14, false))),
         ("x twice", COPY, (b"n1 x0 y0 x1\n", 1), BOTH, NONE, b"", bad(Cause::TwiceField, 1),
             Some((12, false))),
         ("no such letter", COPY, (b"n1 v0 q\n", 1), BOTH, NONE, b"", bad(Cause::BadField, 1),
             Some((8, false))),
         ("deleted", COPY, (b"n1 dD x0 y0\n", 1), BOTH, NONE, b"", bad(Cause::Deleted, 1),
             Some((12, false))),
-        ("a longitude past 180", COPY, (b"n1 x181 y0\n", 1), BOTH, NONE, b"", bad(Cause::BadCoordinate, 1),
-            Some((11, false))),
+        ("a longitude past 180", COPY, (b"n1 x181 y0\n", 1), BOTH, NONE, b"",
+            bad(Cause::BadCoordinate, 1), Some((11, false))),
         ("a second of 60", COPY, (b"n1 t2010-01-01T00:00:60Z x0 y0\n", 1), BOTH, NONE, b"",
             bad(Cause::BadTime, 1), Some((31, false))),
-        ("no character", COPY, (b"n1 u%110000% x0 y0\n", 1), BOTH, NONE, b"", bad(Cause::BadEscape, 1),
-            Some((19, false))),
-        ("half a place", COPY, (b"n1 x0\n", 1), BOTH, NONE, b"", bad(Cause::NoPlace, 1), Some((6, false))),
-        ("a tag without a key", COPY, (b"n1 T=b x0 y0\n", 1), BOTH, NONE, b"", bad(Cause::BadField, 1),
-            Some((13, false))),
+        ("no character", COPY, (b"n1 u%110000% x0 y0\n", 1), BOTH, NONE, b"",
+            bad(Cause::BadEscape, 1), Some((19, false))),
+        ("half a place", COPY, (b"n1 x0\n", 1), BOTH, NONE, b"", bad(Cause::NoPlace, 1),
+            Some((6, false))),
+        ("a tag without a key", COPY, (b"n1 T=b x0 y0\n", 1), BOTH, NONE, b"",
+            bad(Cause::BadField, 1), Some((13, false))),
         ("no UTF-8", COPY, (b"n1 u\xff x0 y0\n", 1), BOTH, NONE, b"", bad(Cause::BadText, 1),
             Some((12, false))),
         ("a line of 16,777,217 bytes", COPY, (b"#", 16_777_217), BOTH, NONE, b"",
@@ -126,16 +131,21 @@ fn rows() -> [Row; 28] {
         ("a bad line is before a failed pull", COPY, (b"x\nn1 x0", 1), (4096, 4096),
             (b"a", Op::Pull, 2), b"", bad(Cause::BadField, 1), Some((7, false))),
         ("there is no file to read", COPY, (b"", 0), BOTH, NONE, BEFORE, open_a, None),
-        ("no file can be made", COPY, NODE, BOTH, (b"b", Op::Make, 1), BEFORE, open_b, Some((0, false))),
-        ("the first put fails", COPY, NODE, BOTH, (b"b", Op::Put, 1), half, write, Some((11, true))),
+        ("no file can be made", COPY, NODE, BOTH, (b"b", Op::Make, 1), BEFORE, open_b,
+            Some((0, false))),
+        ("the first put fails", COPY, NODE, BOTH, (b"b", Op::Put, 1), half, write,
+            Some((11, true))),
         ("the keep fails", COPY, NODE, BOTH, (b"b", Op::Keep, 1), b"", keep, Some((11, true))),
         ("spaces stand at both ends", COPY, (b" w5  Nn1,n2 ", 1), BOTH, NONE, REFS_COPY, clean,
             Some((12, true))),
-        ("other words are no command", OTHER, NODE, BOTH, NONE, BEFORE, Fault::NotBuilt { task: 0 }, None),
+        ("other words are no command", OTHER, NODE, BOTH, NONE, BEFORE, Fault::NotBuilt { task: 0 },
+            None),
     ]
 }
 
-fn text(alloc: Global, bytes: &[u8]) -> Result<Text, NoMemory> {
+fn text(alloc: Global, bytes: &[u8]) -> Result<Text, NoMemory>
+    ensures { IfOk result (λ t. t ≡ bytes.now) }
+{
     match Text::from_bytes(alloc, bytes) {
         Ok(text) => Ok(text),
         Err(TextError::Memory) | Err(TextError::BadText) => Err(NoMemory),
@@ -156,7 +166,7 @@ fn files_of(alloc: Global, a: Content) -> Result<Files, NoMemory>
 {
     let (part, times) = a;
     let b = FileHeld {
-        name: Text::from_bytes(alloc, b"b").map_err(|_| NoMemory)?,
+        name: text(alloc, b"b")?,
         bytes: Bytes::from_slice(alloc, BEFORE)?,
     };
     let mut files = Files::new(alloc);
@@ -167,7 +177,7 @@ fn files_of(alloc: Global, a: Content) -> Result<Files, NoMemory>
             bytes.append(part)?;
         }
         let a = FileHeld {
-            name: Text::from_bytes(alloc, b"a").map_err(|_| NoMemory)?,
+            name: text(alloc, b"a")?,
             bytes,
         };
         files.push(a)?;
@@ -204,11 +214,12 @@ fn run_on<H: Host>(alloc: Global, words: &[Text], host: &mut H) -> Status {
 
 /// What the host holds as `b`.
 fn held(host: &MemoryHost) -> Option<&[u8]> {
-    host.files()
-        .as_slice()
-        .iter()
-        .find(|file| file.name.as_slice() == b"b".as_slice())
-        .map(|file| file.bytes.as_slice())
+    for file in host.files().as_slice() {
+        if file.name.as_slice() == b"b".as_slice() {
+            return Some(file.bytes.as_slice());
+        }
+    }
+    None
 }
 
 fn check(rt: &(impl Abort + AllocGlobal), row: Row, piece: u32) -> Result<(), Fail>
@@ -222,10 +233,17 @@ fn check(rt: &(impl Abort + AllocGlobal), row: Row, piece: u32) -> Result<(), Fa
     let status = run_on(alloc, words.as_slice(), &mut host);
     assert_eq!(rt; held(&host), Some(b), "{says}");
     assert_eq!(rt; status.fault, fault, "{says}");
-    let task = 0;
-    let entry = end.map(|(given, clean)| SourceEnd { task, given, clean });
-    assert_eq!(rt; status.ends.len(), usize::from(entry.is_some()), "{says}");
-    assert_eq!(rt; status.ends.as_slice().first().copied(), entry, "{says}");
+    let entries = status.ends.as_slice();
+    if let Some((given, clean)) = end {
+        let task = 0;
+        assert_eq!(rt;
+            entries,
+            [SourceEnd { task, given, clean }].as_slice(),
+            "{says}"
+        );
+    } else {
+        assert_eq!(rt; entries.len(), 0, "{says}");
+    }
     assert_eq!(rt; host.said().len(), 0, "{says}");
     Ok(())
 }

@@ -2,9 +2,10 @@
 ghost use Rattle.std.specs.Prelude.{◌≢◌, IfOk};
 ghost use Rattle.std.specs.List.{AllPairs};
 
-use crate::memory::{FailAt, Fails, FileHeld, Files, MemoryHost};
-use crate::outside::{Failed, Host, HostError, Op, Sink, Source};
 use osm_entity::{Bytes, NoMemory, Text};
+use osm_host::{
+    FailAt, Failed, Fails, FileHeld, Files, Host, HostError, MemoryHost, Op, Sink, Source,
+};
 use std::alloc::Global;
 use std::test::Fail;
 

@@ -1,11 +1,7 @@
 //! What no clause says: that the calls answer where memory is there, and which order is meant.
-use crate::entity::Entity;
-use crate::item::{Act, Item};
-use crate::kind::{Key, Kind};
-use crate::parts::{Body, Refs, Tags};
-use crate::sequence::{Bytes, NoMemory};
-use crate::text::{Text, TextError};
-use crate::weighing::weight;
+use osm_entity::{
+    Act, Body, Bytes, Entity, Item, Key, Kind, NoMemory, Refs, Tags, Text, TextError, weight,
+};
 use std::alloc::Global;
 use std::test::Fail;
 
