@@ -12,8 +12,7 @@ push_as-requires-clause-rule g c =
     let known = c.half.invariant.2.of_ends in
     let may : (ends_hand pass).sends ≡ true = ap (λ (v : Hand Last). v.sends) known in
     let places = ruled_capacity c.deref.result.now.slot in
-    let any = within_any (ends_hand pass).limit places (ap (λ (v : Hand Last). v.limit) known) in
-    let last : Last = record { end = c.args.end; count = c.half.inside.count } in (
-      sends places pass.id (ends_hand pass) last may any,
+    let any = within_any (ends_hand pass).limit places (ap (λ (v : Hand Last). v.limit) known) in (
+      sends places pass.id (ends_hand pass) _ may any,
       holds_less pass.id (ends_hand pass) may,
     )
