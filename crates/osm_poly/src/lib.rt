@@ -5,7 +5,5 @@ mod line;
 mod point;
 mod poly;
 mod section;
-#[cfg(test)]
-mod tests;
 
 pub use poly::{PolyError, read_poly};

@@ -1,8 +1,8 @@
 //! What no clause says: that the definitions mean what the format's text says, by files and places
 //! whose answers were found by hand.
-use crate::poly::{PolyError, read_poly};
 use osm_area::Area;
 use osm_entity::Place;
+use osm_poly::{PolyError, read_poly};
 use std::alloc::Global;
 use std::test::Fail;
 
