@@ -1,10 +1,1 @@
-pub mod Causes
-pub mod Codes
-pub mod Copying
-pub mod Course
-pub mod Faults
-pub mod Outcome
-pub mod Plan
-pub mod Pulling
-pub mod Reading
-pub mod Tasks
+pub mod ExitCode

@@ -1,24 +1,18 @@
-//! Runs an Osmosis command line over OPL files.
+//! Runs an Osmosis command line over real files.
 #![tactic(auto)]
 
 ghost use Rattle.std.specs.Prelude.{◌≡◌, ◌<◌};
+ghost use Rattle.osm_host.specs.Moments.{moment};
+ghost use Rattle.osm_cli.specs.ExitCode.{IsExitCode};
 
 mod arguments;
-mod copying;
-mod putting;
-mod reading;
-#[cfg(test)]
-mod real_files_tests;
-mod running;
-mod status;
-#[cfg(test)]
-mod tests;
-mod words;
 
 use arguments::read_words;
 use osm_entity::{Steps, Text, TextError};
+use osm_host::Host;
 use osm_host_std::StdHost;
-use running::run_alone;
+use osm_run::run_alone;
+use std::alloc::Global;
 use std::fs::File;
 use std::io::Eprint;
 use std::marker::Brand;
@@ -55,5 +49,18 @@ fn run_words<R: Files<File = File> + Eprint + AllocGlobal + Drop, L: Ledger>(
     let alloc = rt.alloc();
     let mut host = StdHost::new(rt);
     let mut steps = Steps::<L>::new(blank);
-    run_alone(alloc, words, &mut host, &mut steps).code
+    exit_code(alloc, words, &mut host, &mut steps)
+}
+
+// Runs a command over a host, and gives the code of its status.
+fn exit_code<H: Host, L: Ledger>(
+    alloc: Global,
+    words: &[Text],
+    host: &mut H,
+    steps: &mut Steps<L>,
+) -> u8
+    ensures { IsExitCode words.now (moment H.files H.said H.mute H.count H.gave H.known host.old)
+        (moment H.files H.said H.mute H.count H.gave H.known host.new) result }
+{
+    run_alone(alloc, words, host, steps).code
 }

@@ -26,7 +26,8 @@ both_by : (a b : Stream) (end_a end_b : End) → a.end ≡ end_a → b.end ≡ e
 both_by a b Done end_b is_a is_b left right = left.done is_a
 both_by a b Broken Done is_a is_b left right = sym (right.done is_b)
 both_by a b Broken Broken is_a is_b left right =
-    let none : left.rest ≡ [] = nothing_more a.items left.rest right.rest (right.front ∙ ap (λ items. items ++ right.rest) left.front) in
+    let none : left.rest ≡ [] = nothing_more a.items left.rest right.rest
+    (right.front ∙ ap (λ items. items ++ right.rest) left.front) in
     let items : a.items ≡ b.items = sym (left.front ∙ ap (λ rest. a.items ++ rest) none ∙ append-nil a.items) in
     let end : a.end ≡ b.end = is_a ∙ sym is_b in
     λ i. record { items = items i; end = end i }

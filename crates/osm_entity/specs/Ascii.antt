@@ -45,3 +45,91 @@ equals_sign = 61
 -- the sign between a member and its role
 abbrev pub at_sign : ℕ
 at_sign = 64
+
+-- the sign before a number above 0
+abbrev pub plus_sign : ℕ
+plus_sign = 43
+
+-- the digit 0, which the others follow
+abbrev pub digit_zero : ℕ
+digit_zero = 48
+
+-- the control character that is no small number
+abbrev pub delete_character : ℕ
+delete_character = 127
+
+-- the letter of a changeset
+abbrev pub letter_c : ℕ
+letter_c = 99
+
+-- the letter of what is done
+abbrev pub letter_d : ℕ
+letter_d = 100
+
+-- the letter of an exponent
+abbrev pub letter_e : ℕ
+letter_e = 101
+
+-- the letter of a uid
+abbrev pub letter_i : ℕ
+letter_i = 105
+
+-- the letter of a node
+abbrev pub letter_n : ℕ
+letter_n = 110
+
+-- the letter of a relation
+abbrev pub letter_r : ℕ
+letter_r = 114
+
+-- the letter of a time
+abbrev pub letter_t : ℕ
+letter_t = 116
+
+-- the letter of a user
+abbrev pub letter_u : ℕ
+letter_u = 117
+
+-- the letter of a version
+abbrev pub letter_v : ℕ
+letter_v = 118
+
+-- the letter of a way
+abbrev pub letter_w : ℕ
+letter_w = 119
+
+-- the letter of degrees east
+abbrev pub letter_x : ℕ
+letter_x = 120
+
+-- the letter of degrees north
+abbrev pub letter_y : ℕ
+letter_y = 121
+
+-- the capital of what is deleted
+abbrev pub capital_d : ℕ
+capital_d = 68
+
+-- the capital of an exponent
+abbrev pub capital_e : ℕ
+capital_e = 69
+
+-- the capital of members
+abbrev pub capital_m : ℕ
+capital_m = 77
+
+-- the capital of refs
+abbrev pub capital_n : ℕ
+capital_n = 78
+
+-- the capital of tags, and the sign between a date and a time of the day
+abbrev pub capital_t : ℕ
+capital_t = 84
+
+-- the capital of what is visible
+abbrev pub capital_v : ℕ
+capital_v = 86
+
+-- the capital at the end of a time
+abbrev pub capital_z : ℕ
+capital_z = 90

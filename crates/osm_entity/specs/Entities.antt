@@ -1,6 +1,7 @@
 -- Entities as contracts see them, what each keeps, and what it weighs.
--- Here an entity is a record of plain numbers and lists; the code keeps texts and lists in blocks of their own.
+-- Here an entity is a record of plain numbers and lists; the code has texts and lists by types of their own.
 use Rattle.std.specs.Prelude.{ℕ, ℤ, nat_abs, ◌+◌, ◌*◌, ◌^◌, ◌<◌, ◌≤◌, ◌≢◌, List, [], length, All, Bool, true, ◌&&◌, nat_le, IsTrue, Some, None, sum_by}
+use Rattle.osm_entity.specs.Counts.{count_limit, changeset_limit}
 use Rattle.osm_entity.specs.declared.parts.Member.{Member}
 use Rattle.osm_entity.specs.declared.parts.Tag.{Tag}
 use Rattle.osm_entity.specs.declared.parts.Place.{Place}
@@ -51,11 +52,15 @@ body_weight (Relation members) = sum_by member_weight members
 abbrev pub weight_of : EntityValue → ℕ
 weight_of e = 128 + length e.user + sum_by tag_weight e.tags + body_weight e.body
 
+-- the most that an entity weighs
+abbrev pub greatest_weight : ℕ
+greatest_weight = 2097152
+
 -- what every entity keeps
 pub record IsEntity (e : EntityValue) : Type 0 where
-  pub version : e.version < 2 ^ 31
-  pub uid : e.uid < 2 ^ 31
-  pub changeset : e.changeset < 2 ^ 63
+  pub version : e.version < count_limit
+  pub uid : e.uid < count_limit
+  pub changeset : e.changeset < changeset_limit
   pub named : All (λ t. t.key ≢ []) e.tags
   pub in_range : IsTrue (body_fits e.body)
-  pub light : weight_of e ≤ 2097152
+  pub light : weight_of e ≤ greatest_weight

@@ -7,8 +7,7 @@ use Rattle.osm_entity.specs.declared.stream.End.TheVariants.{Done, Broken}
 use Rattle.osm_entity.specs.declared.verdict.Cause.{Cause}
 use Rattle.osm_entity.specs.declared.verdict.Spot.{Spot}
 
--- how a task ends: all its input was whole; an input was broken before it; its own source was cut off; or its input is
--- wrong at a spot
+-- how a task ends: its input was whole, an input was broken before it, its source was cut off, or its input is wrong
 pub data Finish : Type 0 where
   Whole : Finish
   Passed : Finish

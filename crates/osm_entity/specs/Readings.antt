@@ -40,7 +40,7 @@ end_read (Bad cause spot) = Broken
 abbrev pub stream_read : Reading → Stream
 stream_read reading = record { items = reading.items; end = end_read reading.ending }
 
--- the verdict of a reader that takes the first `limit` bytes of a source which gave `count`, by the ending of their reading
+-- the verdict of a reader that takes the first `limit` of the `count` bytes of a source, by the ending of their reading
 abbrev pub verdict_read : ℕ → ℕ → Ending → Verdict
 verdict_read limit count Whole = Clean
 verdict_read limit count Cut = if nat_lt limit count then TooLong else Read

@@ -33,7 +33,8 @@ impl Key {
     ghost use Rattle.std.specs.Prelude.{◌≡◌};
     ghost use Rattle.osm_entity.specs.Keys.{is_key_before};
 
-    /// Whether it stands before the other in a sorted file: by kind, and among one kind by signed id.
+    /// Whether it stands before the other in a sorted file: by kind, and among one kind by signed
+    /// id.
     pub fn is_before(&self, other: &Key) -> bool
         ensures { result ≡ is_key_before self.now other.now }
     {

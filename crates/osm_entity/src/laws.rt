@@ -1,6 +1,10 @@
-//! A law of streams.
-ghost use Rattle.std.specs.Prelude.{◌≡◌};
+//! Laws of streams and of keys.
+ghost use Rattle.std.specs.Prelude.{◌≡◌, ◌≢◌, ◌⊎◌, true, false, Some};
+ghost use Rattle.osm_entity.specs.Keys.{is_key_before, key_order};
 ghost use Rattle.osm_entity.specs.Streams.{Stream, IsBefore};
+ghost use Rattle.osm_entity.specs.declared.kind.Key.{Key};
+ghost use Rattle.osm_entity.specs.contracts.kind.KeyOrd.TheImpl as compared;
+ghost use Rattle.osm_entity.specs.contracts.kind.KeyPartialOrd.TheImpl as partly;
 
 /// To be before another stream is an order: each stream is before itself, a stream that is before
 /// one that is before a third is before that, and two streams that are before each other are one.
@@ -8,4 +12,18 @@ pub fn before_is_an_order()
     ensures itself { (a : Stream) → IsBefore a a }
     ensures onward { (a b c : Stream) → IsBefore a b → IsBefore b c → IsBefore a c }
     ensures both { (a b : Stream) → IsBefore a b → IsBefore b a → a ≡ b }
+{}
+
+/// The order of sorted files is strict and total, and `cmp` and `<` on keys go by it: of two keys
+/// either exactly one is before the other, or they are equal.
+pub fn keys_have_one_order()
+    ensures told { (a b : Key) → (is_key_before a b ≡ true)
+        ⊎ ((a ≡ b) ⊎ (is_key_before b a ≡ true)) }
+    ensures differ { (a b : Key) → is_key_before a b ≡ true → a ≢ b }
+    ensures once { (a b : Key) → is_key_before a b ≡ true → is_key_before b a ≡ false }
+    ensures onward { (a b c : Key) → is_key_before a b ≡ true → is_key_before b c ≡ true
+        → is_key_before a c ≡ true }
+
+    ensures cmp { (a b : Key) → compared.ghosts.cmp a b ≡ key_order a b }
+    ensures partial_cmp { (a b : Key) → partly.ghosts.partial_cmp a b ≡ Some (key_order a b) }
 {}

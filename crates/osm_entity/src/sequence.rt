@@ -1,10 +1,12 @@
-//! A list that says when memory is wanted. Contracts see it as the list of its elements.
-ghost use Rattle.std.specs.Prelude.{◌≡◌, ◌++◌, ◌∷◌, [], length, take, slice_set, ◌<◌, IfOk, OnOk, OnErr, MatchOption};
+//! A list that says when it is out of memory. Contracts see it as the list of its elements.
+ghost use Rattle.std.specs.Prelude.{◌≡◌, ◌++◌, ◌∷◌, [], length, reverse, take, slice_set, ◌<◌, ◌≤◌, IfOk, OnOk, OnErr, MatchOption};
+ghost use Rattle.std.specs.Fn.{CalledAt};
+ghost use Rattle.std.specs.List.Retain.{IsFiltered};
 
 use std::alloc::Global;
 use std::marker::Model;
 
-/// Memory was wanted, and there was none.
+/// Out of memory.
 #[derive(Clone, Copy, Debug, PartialEq, Eq)]
 pub struct NoMemory;
 
@@ -67,6 +69,13 @@ impl<T> Sequence<T> {
     {
         self.items.pop()
     }
+
+    /// Turns the list round: its last element comes first. It takes no memory.
+    pub fn reverse(&mut self)
+        ensures { self.new ≡ reverse self.old }
+    {
+        self.items.reverse();
+    }
 }
 
 impl<T: Drop> Sequence<T> {
@@ -94,6 +103,15 @@ impl<T: Drop> Sequence<T> {
         ensures { self.new ≡ take count self.old }
     {
         self.items.truncate(count);
+    }
+
+    /// Keeps the elements of which `test` says true, in their order. It takes no memory.
+    pub fn retain<F: FnMut(&T) -> bool>(&mut self, test: F)
+        requires { F.IsAlwaysCallable test }
+        ensures filtered { IsFiltered (CalledAt F.FnMut) test self.old self.new }
+        ensures bound { length self.new ≤ length self.old }
+    {
+        self.items.retain(test);
     }
 }
 

@@ -4,7 +4,9 @@ ghost use Rattle.std.specs.Str.{IsUtf8};
 ghost use Rattle.osm_entity.specs.declared.text.TextError.TheVariants.{BadText};
 
 use crate::sequence::NoMemory;
+use crate::storage::Storage;
 use std::alloc::Global;
+use std::fmt;
 use std::marker::Model;
 use thiserror::Error;
 
@@ -14,33 +16,36 @@ pub enum TextError {
     /// The bytes are not UTF-8.
     #[error("bad text")]
     BadText,
-    /// Memory was wanted, and there was none.
-    #[error("no memory")]
+    /// Out of memory.
+    #[error("out of memory")]
     Memory,
 }
 
-/// A text. Contracts see it as the list of its UTF-8 bytes.
-#[derive(Debug, Drop)]
+/// A text. Contracts see it as the list of its UTF-8 bytes. Up to 22 of them are held in the text
+/// itself; more take memory.
+#[derive(Drop)]
 pub struct Text {
-    text: String,
+    storage: Storage,
 }
 
 impl Model for Text {
     ghost use Rattle.std.specs.Prelude.{List, ℕ};
-    ghost use Rattle.std.specs.String.{string_bytes};
+    ghost use Rattle.osm_entity.specs.Storage.{stored_bytes, IsStoredText};
 
     ghost Value = { List ℕ };
 
-    ghost view = { λ t. string_bytes t.text };
+    ghost view = { λ t. stored_bytes t.storage };
+
+    ghost invariant = { λ t. IsStoredText t.storage };
 }
 
 impl Text {
     /// The empty text. It takes no memory.
-    pub fn new(alloc: Global) -> Self
+    pub fn new(_: Global) -> Self
         ensures { result ≡ [] }
     {
         Text {
-            text: String::new(alloc),
+            storage: Storage::empty(),
         }
     }
 
@@ -51,12 +56,21 @@ impl Text {
         ensures refused { IsErrOf result TextError.BadText → (IsUtf8 bytes.now → ⊥) }
     {
         match std::str::from_utf8(bytes) {
-            Ok(text) => match String::from_str(alloc, text) {
-                Ok(text) => Ok(Text { text }),
+            Ok(text) => match Storage::from_slice(alloc, text.as_bytes()) {
+                Ok(storage) => Ok(Text { storage }),
                 Err(_) => Err(TextError::Memory),
             },
             Err(_) => Err(TextError::BadText),
         }
+    }
+
+    /// The text of these bytes, which are known to be UTF-8: they are not looked at again.
+    pub fn from_utf8(alloc: Global, bytes: &[u8]) -> Result<Self, NoMemory>
+        requires { IsUtf8 bytes.now }
+        ensures { IfOk result (λ t. t ≡ bytes.now) }
+    {
+        let storage = Storage::from_slice(alloc, bytes)?;
+        Ok(Text { storage })
     }
 
     /// Its bytes.
@@ -64,18 +78,15 @@ impl Text {
         ensures value { result.now ≡ self.now }
         ensures utf8 { IsUtf8 self.now }
     {
-        let text = self.text.as_str();
-        text.as_bytes()
+        self.storage.as_slice()
     }
 
     /// An equal text.
     pub fn copy(&self, alloc: Global) -> Result<Self, NoMemory>
         ensures { IfOk result (λ t. t ≡ self.now) }
     {
-        match String::from_str(alloc, self.text.as_str()) {
-            Ok(text) => Ok(Text { text }),
-            Err(_) => Err(NoMemory),
-        }
+        let storage = self.storage.copy(alloc)?;
+        Ok(Text { storage })
     }
 
     /// Whether the two have the same bytes.
@@ -83,5 +94,15 @@ impl Text {
         ensures { IsTrue result ↔ (self.now ≡ other.now) }
     {
         self.as_slice() == other.as_slice()
+    }
+}
+
+/// Shows the text between quotes.
+impl fmt::Debug for Text {
+    fn fmt<W: fmt::Write>(&self, f: &mut fmt::Formatter<W>) -> fmt::Result {
+        match std::str::from_utf8(self.as_slice()) {
+            Ok(text) => fmt::Debug::fmt(text, f),
+            Err(_) => Ok(()),
+        }
     }
 }

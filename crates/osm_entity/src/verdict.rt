@@ -21,7 +21,7 @@ pub enum Cause {
     NoPlace,
     /// A deleted entity where none may be.
     Deleted,
-    /// An entity of more than 2,097,152 in weight.
+    /// An entity past the greatest weight, 2,097,152.
     TooHeavy,
     /// A line of more than 16,777,216 bytes.
     LineTooLong,
@@ -77,6 +77,6 @@ pub enum Verdict {
     Read,
     /// Its sink failed.
     Write,
-    /// It found no memory.
+    /// It is out of memory.
     Memory,
 }

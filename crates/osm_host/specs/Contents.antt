@@ -1,6 +1,6 @@
 -- What files, sources and sinks hold, where it is told: `None` tells nothing.
 -- Here files are one finite map; the code of a host keeps them as it likes.
-use Rattle.std.specs.Prelude.{◌≡◌, ℕ, ◌≤◌, List, [], length, take, false, ⊤, Option, Some, None, Ok, Err}
+use Rattle.std.specs.Prelude.{◌≡◌, ℕ, ◌≤◌, List, [], length, take, false, ⊤, Option, Some, None, IfSome, Ok, Err}
 use Rattle.std.specs.FinMap as map
 use Rattle.std.specs.Option.{option_map}
 use Rattle.std.specs.Ordering.{nat_cmp}
@@ -21,9 +21,9 @@ abbrev pub IsContent : Option Files → List ℕ → Option (List ℕ) → Type 
 IsContent None name rest = ⊤
 IsContent (Some files) name rest = (bytes : List ℕ) × (map.get files name ≡ Some bytes) × (rest ≡ Some bytes)
 
--- where files are told, nothing was taken yet, and that is told too
+-- what a new sink tells that it took is nothing, and where files are told it tells
 abbrev pub IsEmptyWhereTold : Option Files → Option (List ℕ) → Type 0
-IsEmptyWhereTold None taken = ⊤
+IsEmptyWhereTold None taken = IfSome taken (λ bytes. bytes ≡ [])
 IsEmptyWhereTold (Some files) taken = taken ≡ Some []
 
 -- the files with these bytes under this name
@@ -41,7 +41,7 @@ abbrev pub BecomesFile : Option (List ℕ) → List ℕ → Option Files → Opt
 BecomesFile None name before now = SameBut name before now
 BecomesFile (Some bytes) name before now = now ≡ set_file name bytes before
 
--- a keep makes the file; after a failure nothing is said of it, and want of memory changes no file
+-- a keep makes the file; after a failure nothing is said of it, and out of memory no file changed
 abbrev pub KeepsFile : {T : Type 0} → Result T HostError → List ℕ → Option (List ℕ) → Option Files → Option Files →
     Type 0
 KeepsFile (Ok x) name taken before now = BecomesFile taken name before now
@@ -53,7 +53,7 @@ abbrev pub PullGives : Result ℕ Failure → List ℕ → Option (List ℕ) →
 PullGives (Ok n) buf before now = before ≡ prepend_known (take n buf) now
 PullGives (Err e) buf before now = now ≡ before
 
--- a put adds its piece; after a failure a front of it, and nothing where memory was wanted
+-- a put adds its piece; after a failure a prefix of it, and nothing where memory was out
 abbrev pub PutTakes : {T : Type 0} → Result T HostError → List ℕ → Option (List ℕ) → Option (List ℕ) → Type 0
 PutTakes (Ok x) piece before now = now ≡ append_known before piece
 PutTakes (Err Failed) piece before now = (k : ℕ) × (k ≤ length piece) × (now ≡ append_known before (take k piece))

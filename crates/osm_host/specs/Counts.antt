@@ -17,7 +17,7 @@ last_count = 2 ^ 64 - 1
 abbrev pub Rose : ℕ → ℕ → Type 0
 Rose before now = min (before + 1) last_count ≤ now
 
--- a count raised by so much, up to its last value, and never lowered
+-- a count raised by this much, up to its last value, and never lowered
 abbrev pub raised : ℕ → ℕ → ℕ
 raised count more = max count (min (count + more) last_count)
 
@@ -31,7 +31,7 @@ abbrev pub CountsFailure : {T : Type 0} → Result T Failure → ℕ → ℕ →
 CountsFailure (Ok x) before now = now ≡ before
 CountsFailure (Err e) before now = Rises before now
 
--- a call that can fail or want memory raises its count where it failed, and else leaves it
+-- a call that can fail or be out of memory raises its count where it failed, and else leaves it
 abbrev pub CountsRefusal : {T : Type 0} → Result T HostError → ℕ → ℕ → Type 0
 CountsRefusal (Ok x) before now = now ≡ before
 CountsRefusal (Err Failed) before now = Rises before now
@@ -67,7 +67,7 @@ pub record CountsOfCall {T : Type 0} (op : Op) (name : List ℕ) (before now : C
   pub own : CountsRefusal result (before op name) (now op name)
   pub others : SameCountsBut op name before now
 
--- the count of this kind and name is raised by so much, and all others stay
+-- the count of this kind and name is raised by this much, and all others stay
 abbrev pub Adds : Op → List ℕ → ℕ → Counts → Counts → Type 0
 Adds op name more before now =
     (o : Op) (n : List ℕ) → now o n ≡ (if is_at op name o n then raised (before o n) more else before o n)
@@ -79,7 +79,7 @@ pub record KeepCounts {T : Type 0} (name : List ℕ) (faults : ℕ) (before now 
   pub puts : now Put name ≡ raised (before Put name) faults
   pub others : (o : Op) (n : List ℕ) → is_at Keep name o n ≡ false → is_at Put name o n ≡ false → now o n ≡ before o n
 
--- what was given under this name is raised by so much, and all else stays
+-- what was given under this name is raised by this much, and all else stays
 abbrev pub GaveOnly : List ℕ → ℕ → (List ℕ → ℕ) → (List ℕ → ℕ) → Type 0
 GaveOnly name more before now =
     (n : List ℕ) → now n ≡ (if bytes_eq n name then raised (before n) more else before n)

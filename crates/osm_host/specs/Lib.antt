@@ -1,8 +1,11 @@
 pub mod Contents
 pub mod Counts
+pub mod Feeds
 pub mod Held
 pub mod Memory
 pub mod Moments
 pub mod Names
 pub mod Plans
+pub mod Pulls
+pub mod Puts
 pub mod Tallies

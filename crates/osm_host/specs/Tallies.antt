@@ -16,7 +16,7 @@ faults_of faults Pull = faults.pulls
 faults_of faults Put = faults.puts
 faults_of faults Keep = faults.keeps
 
--- a count of the kind of call `o` after so many more faults of the kind `op`
+-- a count of the kind of call `o` after this many more faults of the kind `op`
 abbrev pub raised_at : Op → Op → ℕ → ℕ → ℕ
 raised_at op o count more = if op_number o == op_number op then raised count more else count
 

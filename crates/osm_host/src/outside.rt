@@ -26,8 +26,8 @@ pub enum HostError {
     /// A device failed.
     #[error("failed")]
     Failed,
-    /// Memory was wanted, and there was none.
-    #[error("no memory")]
+    /// There was no memory for it.
+    #[error("out of memory")]
     Memory,
 }
 
@@ -83,7 +83,8 @@ pub trait Source {
     /// How many of its pulls failed; it stops at 2^64 - 1.
     ghost faults: { Self → ℕ };
 
-    /// Gives the next bytes, as many as it likes and `buf` has room for, at the front of `buf`.
+    /// Gives the next bytes, as many as it likes and `buf` has room for: `Ok(n)` put the first n of
+    /// what is left into the first n places of `buf`.
     /// `Ok(0)` is the end of its bytes. After `Ok(0)` and `Failed` its bytes are as they were.
     fn pull(&mut self, buf: &mut [u8]) -> Result<usize, Failed>
         requires { 0 < length buf.old }
@@ -107,7 +108,7 @@ pub trait Sink {
     /// How many of its puts failed; it stops at 2^64 - 1.
     ghost faults: { Self → ℕ };
 
-    /// Takes the piece whole. After `Failed` it took a front of it, after `Memory` nothing.
+    /// Takes the piece whole. After `Failed` it took a prefix of it, after `Memory` nothing.
     fn put(&mut self, bytes: &[u8]) -> Result<(), HostError>
         ensures name { name self.new ≡ name self.old }
         ensures takes { PutTakes result bytes.now (taken self.old) (taken self.new) }
@@ -160,11 +161,13 @@ pub trait Host {
         ensures files { files self.new ≡ files self.old }
         ensures said { said self.new ≡ said self.old }
         ensures mute { mute self.new ≡ mute self.old }
-        ensures counts { Adds Pull name.now (Self.In.faults source) (count self.old) (count self.new) }
+        ensures counts { Adds Pull name.now (Self.In.faults source)
+            (count self.old) (count self.new) }
         ensures gave { GaveOnly name.now (Self.In.given source) (gave self.old) (gave self.new) }
         ensures known { known self.new ≡ known self.old };
 
-    /// Makes the file of this name empty, and opens it to be written.
+    /// Makes the file of this name empty, and opens it to be written. The new sink took nothing
+    /// yet: what it tells of its bytes is empty, and it tells where the host tells its files.
     fn open_sink(&mut self, name: &Text) -> Result<Self::Out, HostError>
         ensures name { IfOk result (λ k. Self.Out.name k ≡ name.now) }
         ensures taken { IfOk result (λ k. IsEmptyWhereTold (files self.old) (Self.Out.taken k)) }
@@ -184,10 +187,12 @@ pub trait Host {
         requires known { Contains (known self.old) name.now }
         requires name { Self.Out.name sink ≡ name.now }
 
-        ensures files { KeepsFile result name.now (Self.Out.taken sink) (files self.old) (files self.new) }
+        ensures files { KeepsFile result name.now (Self.Out.taken sink)
+            (files self.old) (files self.new) }
         ensures said { said self.new ≡ said self.old }
         ensures mute { mute self.new ≡ mute self.old }
-        ensures counts { KeepCounts name.now (Self.Out.faults sink) (count self.old) (count self.new) result }
+        ensures counts { KeepCounts name.now (Self.Out.faults sink)
+            (count self.old) (count self.new) result }
         ensures gave { (n : List ℕ) → gave self.new n ≡ gave self.old n }
         ensures known { known self.new ≡ known self.old };
 

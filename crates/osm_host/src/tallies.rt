@@ -6,6 +6,7 @@ ghost use Rattle.osm_host.specs.Names.{KeepsNames, AddsOnly};
 ghost use Rattle.osm_host.specs.Tallies.{faults_of, raised_at, faults_in, given_in, names_in, new_row, no_faults};
 ghost use Rattle.osm_host.specs.declared.outside.Op.{Op};
 
+use crate::naming::{Named, position_of};
 use crate::outside::Op;
 use osm_entity::{NoMemory, Text};
 use std::alloc::Global;
@@ -82,6 +83,14 @@ impl Tally {
     }
 }
 
+impl Named for Tally {
+    ghost name = { λ t. t.name };
+
+    fn name(&self) -> &Text {
+        &self.name
+    }
+}
+
 /// The rows of a host. Contracts see them as a list.
 #[derive(Debug, Drop)]
 pub struct Tallies {
@@ -97,63 +106,14 @@ impl Model for Tallies {
     ghost view = { λ t. t.rows.items };
 }
 
-/// Where the first row of this name is.
-fn place_of(rows: &[Tally], name: &Text) -> Option<usize>
-    ensures { result ≡ position (λ t. bytes_eq name.now t.name) rows.now }
-{
-    rows.iter().position(|row| row.name.is(name))
-}
-
 /// Where the row of a name is that has one.
 fn row_of(rows: &[Tally], name: &Text) -> usize
     requires { Contains (names_in rows.now) name.now }
     ensures { Some result ≡ position (λ t. bytes_eq name.now t.name) rows.now }
 {
-    match place_of(rows, name) {
+    match position_of(rows, name) {
         Some(at) => at,
         None => unreachable!(),
-    }
-}
-
-fn count_in(rows: &[Tally], op: Op, name: &Text) -> u64
-    ensures { result ≡ faults_in rows.now op name.now }
-{
-    match place_of(rows, name) {
-        Some(at) => rows[at].faults.of(op),
-        None => 0,
-    }
-}
-
-fn add_in(rows: &mut [Tally], op: Op, name: &Text, more: u64)
-    requires { Contains (names_in rows.old) name.now }
-    ensures counts { Adds op name.now more (faults_in rows.old) (faults_in rows.new) }
-    ensures gave { (n : List ℕ) → given_in rows.new n ≡ given_in rows.old n }
-    ensures known { names_in rows.new ≡ names_in rows.old }
-{
-    let at = row_of(rows, name);
-    let row = &mut rows[at];
-    row.faults.add(op, more);
-}
-
-fn give_in(rows: &mut [Tally], name: &Text, more: u64)
-    requires { Contains (names_in rows.old) name.now }
-    ensures gave { GaveOnly name.now more (given_in rows.old) (given_in rows.new) }
-    ensures counts { SameCounts (faults_in rows.old) (faults_in rows.new) }
-    ensures known { names_in rows.new ≡ names_in rows.old }
-{
-    let at = row_of(rows, name);
-    let row = &mut rows[at];
-    row.give(more);
-}
-
-/// Whether the name has a row.
-fn has_row(rows: &[Tally], name: &Text) -> bool
-    ensures found { IsTrue result → Contains (names_in rows.now) name.now }
-    ensures none { Contains (names_in rows.now) name.now → IsTrue result }
-{
-    match place_of(rows, name) {
-        Some(_at) => true,
-        None => false,
     }
 }
 
@@ -173,20 +133,6 @@ fn push_row(rows: &mut Vec<Tally>, alloc: Global, name: &Text) -> Result<(), NoM
     }
 }
 
-fn enter_in(rows: &mut Vec<Tally>, alloc: Global, name: &Text) -> Result<(), NoMemory>
-    ensures keeps { KeepsNames (names_in rows.old.items) (names_in rows.new.items) }
-    ensures only { AddsOnly name.now (names_in rows.old.items) (names_in rows.new.items) }
-    ensures own { OnOk result (Contains (names_in rows.new.items) name.now) }
-    ensures err { OnErr result (names_in rows.new.items ≡ names_in rows.old.items) }
-    ensures counts { SameCounts (faults_in rows.old.items) (faults_in rows.new.items) }
-    ensures gave { (n : List ℕ) → given_in rows.new.items n ≡ given_in rows.old.items n }
-{
-    if has_row(rows, name) {
-        return Ok(());
-    }
-    push_row(rows, alloc, name)
-}
-
 impl Tallies {
     /// No rows. It takes no memory.
     pub fn new(alloc: Global) -> Tallies
@@ -202,14 +148,20 @@ impl Tallies {
         ensures found { IsTrue result → Contains (names_in self.now) name.now }
         ensures none { Contains (names_in self.now) name.now → IsTrue result }
     {
-        has_row(&self.rows, name)
+        match position_of(&self.rows, name) {
+            Some(_at) => true,
+            None => false,
+        }
     }
 
     /// The count of this kind of call on this name; 0 where the name was not entered.
     pub fn count(&self, op: Op, name: &Text) -> u64
         ensures { result ≡ faults_in self.now op name.now }
     {
-        count_in(&self.rows, op, name)
+        match position_of(&self.rows, name) {
+            Some(at) => self.rows[at].faults.of(op),
+            None => 0,
+        }
     }
 
     /// Makes a row of zeros for this name, where it has none. Only a new row takes memory.
@@ -222,7 +174,10 @@ impl Tallies {
         ensures counts { SameCounts (faults_in self.old) (faults_in self.new) }
         ensures gave { (n : List ℕ) → given_in self.new n ≡ given_in self.old n }
     {
-        enter_in(&mut self.rows, alloc, name)
+        if self.is_known(name) {
+            return Ok(());
+        }
+        push_row(&mut self.rows, alloc, name)
     }
 
     /// Raises the count of this kind of call on this name.
@@ -232,7 +187,8 @@ impl Tallies {
         ensures gave { (n : List ℕ) → given_in self.new n ≡ given_in self.old n }
         ensures known { names_in self.new ≡ names_in self.old }
     {
-        add_in(&mut self.rows, op, name, more);
+        let at = row_of(&self.rows, name);
+        self.rows[at].faults.add(op, more);
     }
 
     /// Counts a call of this kind on this name that failed.
@@ -253,6 +209,7 @@ impl Tallies {
         ensures counts { SameCounts (faults_in self.old) (faults_in self.new) }
         ensures known { names_in self.new ≡ names_in self.old }
     {
-        give_in(&mut self.rows, name, more);
+        let at = row_of(&self.rows, name);
+        self.rows[at].give(more);
     }
 }

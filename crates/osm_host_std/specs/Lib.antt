@@ -1,2 +1,4 @@
 pub mod Gathered
+pub mod Opened
 pub mod Untold
+pub mod Written

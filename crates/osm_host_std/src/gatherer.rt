@@ -1,9 +1,10 @@
 //! A writer that gathers what it is given, and writes it in large pieces.
-ghost use Rattle.std.specs.Prelude.{◌≡◌, [], OnOk, IfOk, vec_items};
-ghost use Rattle.std.specs.Io.KnownBytes.{Appends, append_known};
-ghost use Rattle.osm_host_std.specs.Gathered.{held};
+ghost use Rattle.std.specs.Prelude.{◌≡◌, [], true, false, OnOk, OnErr, IfOk};
+ghost use Rattle.std.specs.Io.KnownBytes.{Appends};
+ghost use Rattle.osm_host_std.specs.Gathered.{held, write_failed, TakesPrefix};
+ghost use Rattle.osm_host_std.specs.Written.{AppendsPrefix};
 
-use crate::transfers::write_whole;
+use crate::output::Output;
 use osm_entity::NoMemory;
 use osm_host::Failed;
 use std::alloc::Global;
@@ -15,7 +16,7 @@ const ROOM: usize = 65536;
 /// A file, and the bytes that it has yet to take.
 #[derive(Drop)]
 pub(crate) struct Gatherer<F> {
-    file: F,
+    output: Output<F>,
     gathered: Vec<u8>,
 }
 
@@ -33,28 +34,42 @@ impl<F> Gatherer<F> {
     /// Nothing is gathered yet, and it will be in this room.
     pub(crate) fn new(file: F, room: Vec<u8>) -> Gatherer<F>
         requires { room.items ≡ [] }
-        ensures file { result.file ≡ file }
+        ensures file { result.output.file ≡ file }
         ensures none { result.gathered.items ≡ [] }
+        ensures sound { write_failed result ≡ false }
     {
         Gatherer {
-            file,
+            output: Output::new(file),
             gathered: room,
         }
+    }
+
+    /// Whether a write failed. Nothing can be taken after that.
+    pub(crate) fn has_failed(&self) -> bool
+        ensures { result ≡ write_failed self.now }
+    {
+        self.output.has_failed()
     }
 }
 
 impl<F: Write> Gatherer<F> {
     /// Takes the bytes. Where there is no room for them, it first writes what was gathered; more
-    /// bytes than the whole room has are written at once. At `Err` a write failed.
+    /// bytes than the whole room has are written at once. At `Err` a write failed, and the file took
+    /// a prefix of what was gathered and of these.
+    #[tactic(auto, using(crate::proofs::WrittenLemmas::prefix_of_more))]
     pub(crate) fn take(&mut self, bytes: &[u8]) -> Result<(), Failed>
-        ensures { OnOk result
+        requires sound { write_failed self.old ≡ false }
+        ensures ok { OnOk result
             (Appends (held F.contents self.old) (held F.contents self.new) bytes.now) }
+        ensures err { OnErr result (TakesPrefix F.contents self.old self.new bytes.now) }
+        ensures sound { OnOk result (write_failed self.new ≡ false) }
+        ensures failed { OnErr result (write_failed self.new ≡ true) }
     {
         if bytes.len() > self.gathered.capacity() - self.gathered.len() {
             self.write_out()?;
-        }
-        if bytes.len() > self.gathered.capacity() {
-            return write_whole(&mut self.file, bytes);
+            if bytes.len() > self.gathered.capacity() {
+                return self.output.write(bytes);
+            }
         }
         match self.gathered.extend_from_slice(bytes) {
             Ok(()) => Ok(()),
@@ -64,11 +79,16 @@ impl<F: Write> Gatherer<F> {
 
     // Writes what was gathered.
     fn write_out(&mut self) -> Result<(), Failed>
+        requires sound { write_failed self.old ≡ false }
         ensures none { OnOk result (self.new.gathered.items ≡ []) }
         ensures ok { OnOk result
-            (Appends (held F.contents self.old) (F.contents self.new.file) []) }
+            (Appends (held F.contents self.old) (F.contents self.new.output.file) []) }
+        ensures err { OnErr result (AppendsPrefix (F.contents self.old.output.file)
+            (F.contents self.new.output.file) self.old.gathered.items) }
+        ensures sound { OnOk result (write_failed self.new ≡ false) }
+        ensures failed { OnErr result (write_failed self.new ≡ true) }
     {
-        write_whole(&mut self.file, self.gathered.as_slice())?;
+        self.output.write(self.gathered.as_slice())?;
         self.gathered.clear();
         Ok(())
     }
@@ -77,9 +97,10 @@ impl<F: Write> Gatherer<F> {
     pub(crate) fn finish(mut self) -> Result<F, Failed>
     where
         F: Drop,
-        ensures { IfOk result (λ file. Appends (held F.contents self) (F.contents file) []) }
+        requires sound { write_failed self ≡ false }
+        ensures ok { IfOk result (λ file. Appends (held F.contents self) (F.contents file) []) }
     {
         self.write_out()?;
-        Ok(self.file)
+        Ok(self.output.into_file())
     }
 }

@@ -3,6 +3,8 @@
 
 mod gatherer;
 mod host;
+mod openings;
+mod output;
 mod sink;
 mod source;
 mod transfers;

@@ -1,12 +1,13 @@
 //! A file that is written.
-ghost use Rattle.std.specs.Prelude.{◌≡◌, [], None, OnOk, IfOk, IsErrOf};
+ghost use Rattle.std.specs.Prelude.{◌≡◌, [], true, false, None, OnOk, OnErr, IfOk, IsErrOf};
 ghost use Rattle.std.specs.Io.KnownBytes.{Appends};
 ghost use Rattle.osm_host.specs.Contents.{PutTakes};
 ghost use Rattle.osm_host.specs.Counts.{CountsRefusal};
 ghost use Rattle.osm_host.specs.declared.outside.HostError.TheVariants.{Memory};
-ghost use Rattle.osm_host_std.specs.Gathered.{held};
+ghost use Rattle.osm_host_std.specs.Gathered.{held, write_failed, TakesPrefix};
 
 use crate::gatherer::Gatherer;
+use crate::openings::{Identity, Opened};
 use osm_entity::Text;
 use osm_host::{Failed, HostError, Sink};
 use std::io::Write;
@@ -15,26 +16,31 @@ use std::io::Write;
 ///
 /// Its bytes are gathered, so a put that answers `Ok` says that the piece was taken, and a failure
 /// of the device shows at a later put or at the end. After a failure nothing more is written: the
-/// file then holds a front of what was put, and lacks what was gathered. A write that a signal
+/// file then holds a prefix of what was put, and lacks what was gathered. A write that a signal
 /// interrupts is tried again, and counts as failed after 1,000 interruptions in a row; so does a
 /// write that takes none of its bytes.
 #[derive(Drop)]
 pub struct FileSink<F> {
     name: Text,
+    // By which it is told from other files in the clauses of a host.
+    identity: Option<Identity>,
     gatherer: Gatherer<F>,
     faults: u64,
 }
 
 impl<F> FileSink<F> {
     /// A sink over a file that was just opened, and over room to gather in.
-    pub(crate) fn new(name: Text, file: F, room: Vec<u8>) -> FileSink<F>
+    pub(crate) fn new(name: Text, opened: Opened<F>, room: Vec<u8>) -> FileSink<F>
         requires { room.items ≡ [] }
         ensures name { result.name ≡ name }
+        ensures identity { result.identity ≡ opened.identity }
+        ensures sound { write_failed result.gatherer ≡ false }
         ensures fresh { result.faults ≡ 0 }
     {
         FileSink {
             name,
-            gatherer: Gatherer::new(file, room),
+            identity: opened.identity(),
+            gatherer: Gatherer::new(opened.into_file(), room),
             faults: 0,
         }
     }
@@ -48,15 +54,16 @@ impl<F> FileSink<F> {
 }
 
 impl<F: Write> FileSink<F> {
-    /// Writes what is gathered, and gives the file. `Err` where that fails, and where a put failed.
+    /// Writes what is gathered, and gives the file. `Err` where that fails, and, with nothing more
+    /// written, where a put failed.
     pub(crate) fn finish(self) -> Result<F, Failed>
     where
         F: Drop,
-        ensures whole { OnOk result (self.faults ≡ 0) }
+        ensures sound { OnOk result (write_failed self.gatherer ≡ false) }
         ensures ok { IfOk result (λ file.
             Appends (held F.contents self.gatherer) (F.contents file) []) }
     {
-        if self.faults > 0 {
+        if self.gatherer.has_failed() {
             return Err(Failed);
         }
         self.gatherer.finish()
@@ -80,8 +87,16 @@ impl<F: Write> Sink for FileSink<F> {
         ensures held { OnOk result
             (Appends (held F.contents self.old.gatherer) (held F.contents self.new.gatherer)
             bytes.now) }
+
+        // A put that fails leaves a prefix. After it each is refused, and nothing is written.
+        ensures prefix { OnErr result
+            (TakesPrefix F.contents self.old.gatherer self.new.gatherer bytes.now) }
+        ensures failed { OnErr result (write_failed self.new.gatherer ≡ true) }
+        ensures refused { write_failed self.old.gatherer ≡ true → IsErrOf result HostError.Failed }
+        ensures idle { write_failed self.old.gatherer ≡ true →
+            self.new.gatherer ≡ self.old.gatherer }
     {
-        if self.faults > 0 || self.gatherer.take(bytes).is_err() {
+        if self.gatherer.has_failed() || self.gatherer.take(bytes).is_err() {
             self.faults = self.faults.saturating_add(1);
             return Err(HostError::Failed);
         }

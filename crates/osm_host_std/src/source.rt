@@ -4,6 +4,7 @@ ghost use Rattle.std.specs.Io.KnownBytes.{Consumes, IsAtEnd};
 ghost use Rattle.osm_host.specs.Contents.{PullGives};
 ghost use Rattle.osm_host.specs.Counts.{raised, CountsFailure};
 
+use crate::openings::{Identity, Opened};
 use crate::transfers::read_some;
 use osm_entity::Text;
 use osm_host::{Failed, Source};
@@ -13,6 +14,8 @@ use std::io::Read;
 #[derive(Drop)]
 pub struct FileSource<F> {
     name: Text,
+    // By which it is told from other files in the clauses of a host.
+    identity: Option<Identity>,
     file: F,
     given: u64,
     faults: u64,
@@ -20,14 +23,16 @@ pub struct FileSource<F> {
 
 impl<F> FileSource<F> {
     /// A source over a file that was just opened.
-    pub(crate) fn new(name: Text, file: F) -> FileSource<F>
+    pub(crate) fn new(name: Text, opened: Opened<F>) -> FileSource<F>
         ensures name { result.name ≡ name }
+        ensures identity { result.identity ≡ opened.identity }
         ensures given { result.given ≡ 0 }
         ensures fresh { result.faults ≡ 0 }
     {
         FileSource {
             name,
-            file,
+            identity: opened.identity(),
+            file: opened.into_file(),
             given: 0,
             faults: 0,
         }

@@ -1,6 +1,7 @@
 //! Reads and writes of a file, tried again where a signal interrupts them.
 ghost use Rattle.std.specs.Prelude.{◌≡◌, ◌<◌, ◌≤◌, length, take, IfOk, OnOk, OnErr};
 ghost use Rattle.std.specs.Io.KnownBytes.{Appends, Consumes, IsAtEnd, Keeps};
+ghost use Rattle.osm_host_std.specs.Written.{AppendsPrefix};
 
 use osm_host::Failed;
 use std::io::{ErrorKind, Read, Write};
@@ -30,7 +31,7 @@ pub(crate) fn read_some<F: Read>(file: &mut F, buf: &mut [u8]) -> Result<usize, 
     Err(Failed)
 }
 
-/// One write that isn't interrupted, of a front of the bytes. A write that takes none of them is a
+/// One write that isn't interrupted, of a prefix of the bytes. A write that takes none of them is a
 /// fault: tried again, it might take none for ever.
 fn write_some<F: Write>(file: &mut F, bytes: &[u8]) -> Result<usize, Failed>
     requires { 0 < length bytes.now }
@@ -38,6 +39,7 @@ fn write_some<F: Write>(file: &mut F, bytes: &[u8]) -> Result<usize, Failed>
     ensures some { IfOk result (λ n. 0 < n) }
     ensures ok { IfOk result (λ n.
         Appends (F.contents file.old) (F.contents file.new) (take n bytes.now)) }
+    ensures err { OnErr result (Keeps (F.contents file.old) (F.contents file.new)) }
 {
     for _turn in 0..TRIES {
         match file.write(bytes) {
@@ -53,9 +55,11 @@ fn write_some<F: Write>(file: &mut F, bytes: &[u8]) -> Result<usize, Failed>
     Err(Failed)
 }
 
-/// Writes the bytes whole. At `Err` the file took a front of them.
+/// Writes the bytes whole. At `Err` the file took a prefix of them.
 pub(crate) fn write_whole<F: Write>(file: &mut F, bytes: &[u8]) -> Result<(), Failed>
     ensures ok { OnOk result (Appends (F.contents file.old) (F.contents file.new) bytes.now) }
+    ensures err { OnErr result
+        (AppendsPrefix (F.contents file.old) (F.contents file.new) bytes.now) }
 {
     let mut rest = bytes;
     while !rest.is_empty() {

@@ -2,7 +2,8 @@
 use Rattle.std.proofs.Common.{◌≡◌, ◌<◌, ◌≤◌, ◌++◌, length, refl, sym, ap, ◌∙◌, subst, arith, append-nil}
 use Rattle.osm_entity.specs.declared.verdict.Verdict.{Verdict}
 use Rattle.osm_opl_line.specs.Line.{LineValue, Skipped, Good, Bad}
-use Rattle.osm_opl.specs.Reader.{ReaderValue, SameSource, verdict_after}
+use Rattle.osm_host.specs.Feeds.{verdict_after}
+use Rattle.osm_opl.specs.Reader.{ReaderValue, SameSource}
 use Rattle.osm_opl.specs.Passing.{HasNoLine, SameRest, TakesLine, passed}
 use Rattle.osm_opl.specs.Unread.{UnreadValue, unread_bytes}
 

@@ -4,3 +4,4 @@ pub mod ReadingLemmas
 pub mod StandingLemmas
 pub mod UnreadLemmas
 pub mod VerdictLemmas
+pub mod WrittenLemmas

@@ -1,100 +1,50 @@
 -- How a reader's standing is kept by a pull.
-use Rattle.std.proofs.Common.{◌≡◌, ℕ, ◌+◌, ◌-◌, ◌^◌, ◌<◌, ◌≤◌, List, [], ◌∷◌, ◌++◌, length, take, false, refl, sym, ap, ◌∙◌, subst, arith, append_assoc, append-nil, eqb-true}
-use Rattle.std.specs.Prelude.{nat_lt, ◌==◌, if◌then◌else◌, Option, Some, None, min}
-use Rattle.std.specs.Io.KnownBytes.{prepend_known}
-use Rattle.std.proofs.lemmas.Bool.{cond_both, eqb-false, ltb-true, ltb-false}
-use Rattle.std.proofs.lemmas.List.{length-append, length-take, take_all}
-use Rattle.std.proofs.Math.Seq.{take-append-add}
+use Rattle.std.proofs.Common.{◌≡◌, ℕ, ◌+◌, ◌-◌, ◌^◌, ◌<◌, ◌≤◌, List, [], ◌++◌, length, take, false, refl, sym, ap, ◌∙◌, subst, arith, append_assoc, append-nil}
+use Rattle.std.specs.Prelude.{Option, min}
+use Rattle.std.specs.Io.KnownBytes.{IsAtEnd}
+use Rattle.std.proofs.lemmas.List.{length-append, length-take}
 use Rattle.osm_entity.specs.Items.{ItemValue}
-use Rattle.osm_host.specs.Counts.{last_count, raised}
+use Rattle.osm_host.specs.Counts.{Rises, last_count, raised}
+use Rattle.osm_host.specs.Feeds.{FitsFeed, MayCome, feed_after, reached_end}
+use Rattle.osm_host.specs.Pulls.{PulledOnce, piece_size, source_value}
+use Rattle.osm_host.specs.declared.feed.Feed.{Feed}
+use Rattle.osm_host.specs.declared.feed.Feed.TheVariants.{Open, Failed}
+use Rattle.osm_host.proofs.FeedLemmas.{fits_after, given_is, open_after, take-limit}
+use Rattle.osm_host.proofs.PullLemmas.{pull_failed, pull_gave}
 use Rattle.osm_entity.specs.Readings.{after}
+use Rattle.osm_opl_line.specs.Line.{longest_line}
 use Rattle.osm_opl_line.specs.Reading.{opl_reading}
 use Rattle.osm_opl.specs.Found.{Filled}
-use Rattle.osm_opl.specs.Pulling.{FaultsOfPull, PulledOnce, feed_after}
-use Rattle.osm_opl.specs.Reader.{ReaderValue, CanPull, IsReader, is_ended}
-use Rattle.osm_opl.specs.Standing.{FitsFeed, MayCome, Stands, reading_from}
+use Rattle.osm_opl.specs.Reader.{ReaderValue, CanPull, IsReader, WantsPull, fed}
+use Rattle.osm_opl.specs.Standing.{Stands, reading_from}
 use Rattle.osm_opl.specs.Unread.{UnreadValue, unread_bytes}
-use Rattle.osm_opl.specs.declared.feed.Feed.{Feed}
-use Rattle.osm_opl.specs.declared.feed.Feed.TheVariants.{Open, Ended, Failed, TooLong}
 
--- a count that isn't 0
-positive : (count : ℕ) → (count == 0) ≡ false → 0 < count
-positive count some = omega (arith, eqb-false count 0 some)
-
--- what holds of each way in which it may stand after a pull
-pub after_pull : (P : Feed → Type 0) (count room : ℕ) → (count ≡ 0 → P Ended) → (0 < count → room < count → P TooLong) →
-    (0 < count → count ≤ room → P Open) → P (feed_after count room)
-after_pull P count room ended long open_ =
-    cond_both (count == 0) Ended (if nat_lt room count then TooLong else Open) P
-    (λ none. ended (eqb-true count 0 none))
-    (λ some. cond_both (nat_lt room count) TooLong Open P
-    (λ past. long (positive count some) (ltb-true room count past))
-    (λ within. open_ (positive count some) (ltb-false room count within)))
-
--- a pull that gave so many bytes fits what it says of the limit
-fits_after : (given limit count : ℕ) → given ≤ limit →
-    FitsFeed (feed_after count (limit - given)) limit (given + count)
-fits_after given limit count within =
-    after_pull (λ feed. FitsFeed feed limit (given + count)) count (limit - given) (λ none. omega arith)
-    (λ some past. omega arith) (λ some fit. omega arith)
-
--- a pull that answers doesn't count as a fault
-pub faults_after : (count room before now : ℕ) → now ≡ before → FaultsOfPull (feed_after count room) before now
-faults_after count room before now same =
-    after_pull (λ feed. FaultsOfPull feed before now) count room (λ _. same) (λ _ _. same) (λ _ _. same)
-
--- after a pull it stands as at the end only where no byte came
-pub ended_after : (count room : ℕ) → feed_after count room ≡ Ended → count ≡ 0
-ended_after count room =
-    after_pull (λ feed. feed ≡ Ended → count ≡ 0) count room (λ none _. none) (λ _ _ e. cc) (λ _ _ e. cc)
-
--- after a pull more may come only where some bytes came, and not too many
-pub open_after : (count room : ℕ) → feed_after count room ≡ Open → (0 < count) × (count ≤ room)
-open_after count room =
-    after_pull (λ feed. feed ≡ Open → (0 < count) × (count ≤ room)) count room (λ _ e. cc) (λ _ _ e. cc)
-    (λ some fit _. (some, fit))
-
--- no bytes before some
-pub prepend-nil : (o : Option (List ℕ)) → prepend_known [] o ≡ o
-prepend-nil None = refl
-prepend-nil (Some bytes) = refl
-
--- the bytes up to the limit, and those for which there is room
-take-limit : (so_far bytes : List ℕ) (limit : ℕ) → length so_far ≤ limit →
-    take limit (so_far ++ bytes) ≡ take limit so_far ++ take (limit - length so_far) bytes
-take-limit so_far bytes limit within =
-    let size : limit ≡ length so_far + (limit - length so_far) = omega arith in
-    ap (λ n. take n (so_far ++ bytes)) size
-    ∙ take-append-add so_far bytes (limit - length so_far)
-    ∙ ap (λ front. front ++ take (limit - length so_far) bytes) (sym (take_all limit so_far within))
-
--- what is given is what was counted
-given_is : (given limit : ℕ) (so_far : List ℕ) → given ≡ raised 0 (length so_far) → given ≤ limit → limit < 2 ^ 64 →
-    length so_far ≤ limit → given ≡ length so_far
-given_is given limit so_far count within sized fits = omega (arith, count)
-
--- bytes that came behind what was held
-rest-more : (old new : UnreadValue) (bytes more : List ℕ) → old.piece ≡ [] → new.held ≡ old.held → new.piece ≡ bytes →
+-- bytes that came behind what was unread
+rest-more : (old new : UnreadValue) (bytes more : List ℕ) → new.held ≡ old.held → new.piece ≡ old.piece ++ bytes →
     unread_bytes old ++ (bytes ++ more) ≡ unread_bytes new ++ more
-rest-more old new bytes more passed held piece =
-    rw (passed, append-nil old.held, held, piece) (sym (append_assoc old.held bytes more))
+rest-more old new bytes more held piece =
+    sym (append_assoc (unread_bytes old) bytes more)
+    ∙ ap (λ all. all ++ more) (append_assoc old.held old.piece bytes)
+    ∙ ap (λ all. (all ++ (old.piece ++ bytes)) ++ more) (sym held)
+    ∙ ap (λ all. (new.held ++ all) ++ more) (sym piece)
 
 -- a reader whose pull gave bytes stands for them too
 pub stands_after : (old : ReaderValue) (unread : UnreadValue) (bytes : List ℕ) → CanPull old → old.given ≤ old.limit →
-    old.limit < 2 ^ 64 → unread.held ≡ old.unread.held → unread.piece ≡ take (old.limit - old.given) bytes →
+    old.limit < 2 ^ 64 → unread.held ≡ old.unread.held →
+    unread.piece ≡ old.unread.piece ++ take (old.limit - old.given) bytes →
     (so_far : List ℕ) (items : List ItemValue) → Stands old so_far false items →
     Stands
     (record old {
       given = raised old.given (length bytes);
       feed = feed_after (length bytes) (old.limit - old.given);
       unread = unread;
-    }) (so_far ++ bytes) (is_ended (feed_after (length bytes) (old.limit - old.given))) items
+    }) (so_far ++ bytes) (reached_end (feed_after (length bytes) (old.limit - old.given))) items
 stands_after old unread bytes pulls within sized held piece so_far items s =
     let fits : length so_far ≤ old.limit = subst (λ feed. FitsFeed feed old.limit (length so_far)) pulls.feeds s.fits in
     let counted : old.given ≡ length so_far = given_is old.given old.limit so_far s.count within sized fits in
     let size : old.given + length bytes ≡ length (so_far ++ bytes) = omega (arith, counted, length-append so_far bytes)
-    in let kept : unread.piece ≡ take (old.limit - length so_far) bytes =
-    piece ∙ ap (λ n. take (old.limit - n) bytes) counted in
+    in let kept : unread.piece ≡ old.unread.piece ++ take (old.limit - length so_far) bytes =
+    piece ∙ ap (λ n. old.unread.piece ++ take (old.limit - n) bytes) counted in
     record {
       count = omega (arith, s.count, length-append so_far bytes);
       ended = refl;
@@ -107,7 +57,7 @@ stands_after old unread bytes pulls within sized held piece so_far items s =
           ∙ s.running pulls.running (take (old.limit - length so_far) bytes ++ more) clean
           (subst (λ feed. MayCome feed (take (old.limit - length so_far) bytes ++ more) clean) (sym pulls.feeds) tt)
           ∙ ap (λ all. after items (reading_from old.flow (old.lines + 1) all clean))
-          (rest-more old.unread unread (take (old.limit - length so_far) bytes) more pulls.passed held kept);
+          (rest-more old.unread unread (take (old.limit - length so_far) bytes) more held kept);
       over = λ not. absurd (not pulls.running);
     }
 
@@ -125,18 +75,18 @@ stands_failed old pulls so_far items s =
       over = λ not. absurd (not pulls.running);
     })
 
--- the sizes of what was held and of what came
+-- the sizes of what was unread and of what came
 rest-size : {S : Type 0} (rest : S → Option (List ℕ)) (before now : S) (room count : ℕ) (old new : UnreadValue) →
-    old.piece ≡ [] → Filled rest before now room count old new →
+    Filled rest before now room count old new →
     length (unread_bytes new) ≡ length (unread_bytes old) + min room count
-rest-size rest before now room count old new passed filled =
+rest-size rest before now room count old new filled =
     omega (
       arith,
       length-append new.held new.piece,
       length-append old.held old.piece,
-      ap length passed,
       ap length filled.held,
       ap length filled.piece,
+      length-append old.piece (take room filled.bytes),
       length-take room filled.bytes,
       filled.size,
     )
@@ -148,7 +98,7 @@ pub reader_after : {S : Type 0} (rest : S → Option (List ℕ)) (before now : S
     feed ≡ feed_after count (old.limit - old.given) →
     IsReader (record old { given = sum; feed = feed; unread = unread })
 reader_after rest before now old unread count sum feed pulls kept filled is feed_is =
-    let size = rest-size rest before now (old.limit - old.given) count old.unread unread pulls.passed filled in
+    let size = rest-size rest before now (old.limit - old.given) count old.unread unread filled in
     let within = kept.within pulls.feeds in
     record {
       sized = kept.sized;
@@ -166,62 +116,66 @@ more_after old count sum feed pulls kept is feed_is open_ =
     let some = open_after count (old.limit - old.given) (sym feed_is ∙ open_) in
     omega (arith, is, kept.sized, kept.within pulls.feeds, some.0, some.1)
 
--- a list without elements
-no_bytes : (bytes : List ℕ) → length bytes ≡ 0 → bytes ≡ []
-no_bytes [] none = refl
-no_bytes (byte ∷ bytes) none = absurd (omega arith)
+-- a pull leaves at most a piece more to read
+pub holds_after : {S : Type 0} (rest : S → Option (List ℕ)) (before now : S) (room count : ℕ) (old new : UnreadValue) →
+    count ≤ piece_size → Filled rest before now room count old new →
+    length (unread_bytes new) ≤ length (unread_bytes old) + piece_size
+holds_after rest before now room count old new small filled =
+    omega (arith, small, rest-size rest before now room count old new filled)
+
+-- a reader that wants a pull holds the beginning of one line
+pub holds_short : (old : ReaderValue) (left : ℕ) → left ≤ length (unread_bytes old.unread) + piece_size →
+    WantsPull old → left ≤ longest_line + piece_size
+holds_short old left more wants =
+    omega (
+      arith,
+      more,
+      wants.holds.short,
+      length-append old.unread.held old.unread.piece,
+      ap length wants.passed,
+    )
 
 -- a pull that gave bytes
-pub pulled : {S : Type 0} (rest : S → Option (List ℕ)) (given : S → ℕ) (before now : S) (old : ReaderValue)
-    (unread : UnreadValue) (count sum : ℕ) (feed : Feed) → CanPull old → IsReader old → count ≤ 65536 →
+pub pulled : {S : Type 0} (rest : S → Option (List ℕ)) (given faults : S → ℕ) (before now : S) (old : ReaderValue)
+    (unread : UnreadValue) (count sum : ℕ) (feed : Feed) → CanPull old → IsReader old → count ≤ piece_size →
     Filled rest before now (old.limit - old.given) count old.unread unread → given now ≡ raised (given before) count →
-    sum ≡ min (old.given + count) last_count → feed ≡ feed_after count (old.limit - old.given) →
-    PulledOnce rest given before now old (record old { given = sum; feed = feed; unread = unread })
-pulled rest given before now old unread count sum feed pulls kept small filled gave is feed_is =
+    (count ≡ 0 → IsAtEnd (rest now)) → faults now ≡ faults before → sum ≡ min (old.given + count) last_count →
+    feed ≡ feed_after count (old.limit - old.given) →
+    PulledOnce fed Stands (source_value rest given faults before) (source_value rest given faults now) old
+    (record old { given = sum; feed = feed; unread = unread })
+pulled rest given faults before now old unread count sum feed pulls kept small filled gave ended same is feed_is =
     let within = kept.within pulls.feeds in
-    let counted : sum ≡ raised old.given (length filled.bytes) = omega (arith, is, filled.size, within, kept.sized) in
+    let sum_is : sum ≡ min (old.given + length filled.bytes) last_count =
+    is ∙ ap (λ n. min (old.given + n) last_count) filled.size in
     let after_is : feed ≡ feed_after (length filled.bytes) (old.limit - old.given) =
     feed_is ∙ ap (λ n. feed_after n (old.limit - old.given)) filled.size in
+    let gives = pull_gave (source_value rest given faults before) (source_value rest given faults now) (fed old)
+    (fed (record old { given = sum; feed = feed; unread = unread })) filled.bytes within kept.sized
+    (omega (arith, small, filled.size)) filled.told (gave ∙ ap (raised (given before)) filled.size)
+    (λ none. ended (filled.size ∙ none)) same sum_is after_is in
     record {
       bytes = filled.bytes;
-      told = filled.told;
-      gave = gave ∙ ap (raised (given before)) filled.size;
-      counted = counted;
-      none = λ over.
-          no_bytes filled.bytes
-          (ended_after (length filled.bytes) (old.limit - old.given) (sym after_is ∙ over));
-      most = omega (arith, small, filled.size);
-      left = omega (
-        arith,
-        rest-size rest before now (old.limit - old.given) count old.unread unread pulls.passed filled,
-        filled.size,
-      );
+      gave = gives;
       stands = λ so_far items s.
           subst
-          (λ n. Stands (record old { given = n; feed = feed; unread = unread }) (so_far ++ filled.bytes) (is_ended feed)
-          items) (sym counted)
+          (λ n. Stands (record old { given = n; feed = feed; unread = unread }) (so_far ++ filled.bytes)
+          (reached_end feed) items) (sym gives.counted)
           (subst
           (λ f. Stands (record old { given = raised old.given (length filled.bytes); feed = f; unread = unread })
-          (so_far ++ filled.bytes) (is_ended f) items) (sym after_is)
+          (so_far ++ filled.bytes) (reached_end f) items) (sym after_is)
           (stands_after old unread filled.bytes pulls within kept.sized filled.held filled.piece so_far items s));
     }
 
--- no byte raises no count
-raised-none : (count : ℕ) → count ≡ raised count 0
-raised-none count = omega arith
-
 -- a pull that failed
-pub pulled_none : {S : Type 0} (rest : S → Option (List ℕ)) (given : S → ℕ) (before now : S) (old : ReaderValue)
-    (unread : UnreadValue) → CanPull old → unread ≡ old.unread → rest now ≡ rest before → given now ≡ given before →
-    PulledOnce rest given before now old (record old { feed = Failed; unread = unread })
-pulled_none rest given before now old unread pulls same left idle = record {
+pub pulled_none : {S : Type 0} (rest : S → Option (List ℕ)) (given faults : S → ℕ) (before now : S)
+    (old : ReaderValue) (unread : UnreadValue) → CanPull old → unread ≡ old.unread → rest now ≡ rest before →
+    given now ≡ given before → Rises (faults before) (faults now) →
+    PulledOnce fed Stands (source_value rest given faults before) (source_value rest given faults now) old
+    (record old { feed = Failed; unread = unread })
+pulled_none rest given faults before now old unread pulls same left idle rises = record {
   bytes = [];
-  told = sym (prepend-nil (rest now) ∙ left);
-  gave = idle ∙ raised-none (given before);
-  counted = raised-none old.given;
-  none = λ over. refl;
-  most = omega arith;
-  left = omega (arith, ap (λ u. length (unread_bytes u)) same);
+  gave = pull_failed (source_value rest given faults before) (source_value rest given faults now) (fed old)
+      (fed (record old { feed = Failed; unread = unread })) left idle rises refl refl;
   stands = λ so_far items s.
       subst (λ u. Stands (record old { feed = Failed; unread = u }) (so_far ++ []) false items) (sym same)
       (stands_failed old pulls so_far items s);

@@ -13,12 +13,12 @@ use Rattle.osm_opl_line.specs.Reading.{before, is_line, lines_of, read_lines, op
 use Rattle.osm_opl_line.specs.Seen.{line_seen}
 use Rattle.osm_opl_line.specs.declared.reading.LineRead.{LineRead}
 use Rattle.osm_opl.specs.Found.{TookLine, IsTooLong}
-use Rattle.osm_opl.specs.Reader.{ReaderValue, is_ended}
+use Rattle.osm_host.specs.Feeds.{MayCome}
+use Rattle.osm_host.specs.declared.feed.Feed.TheVariants.{Ended}
+use Rattle.osm_opl.specs.Reader.{ReaderValue}
 use Rattle.osm_opl.specs.Passing.{TakesLine}
-use Rattle.osm_opl.specs.Standing.{MayCome, reading_from}
+use Rattle.osm_opl.specs.Standing.{reading_from}
 use Rattle.osm_opl.specs.Unread.{HasNoNewline, unread_bytes}
-use Rattle.osm_opl.specs.declared.feed.Feed.{Feed}
-use Rattle.osm_opl.specs.declared.feed.Feed.TheVariants.{Open, Ended, Failed, TooLong}
 use Rattle.osm_opl.proofs.UnreadLemmas.{opl_line-long}
 
 -- a reading of nothing but how it ends
@@ -77,7 +77,7 @@ is_line-long clean rest long =
 pub is_line-end : (rest : List ℕ) → 0 < length rest → is_line true rest ≡ true
 is_line-end rest some = rw (lt-ltb 0 (length rest) some) refl
 
--- before the end of a file a front is no line
+-- before the end of a file the beginning of a line is none
 pub is_line-open : (rest : List ℕ) → length rest ≤ longest_line → is_line false rest ≡ false
 is_line-open rest short = le-ltb longest_line (length rest) short
 
@@ -137,10 +137,3 @@ takes_last old new read same over passed free some says taken =
 pub not_empty : (xs : List ℕ) → (xs ≡ [] → ⊥) → 0 < length xs
 not_empty [] some = absurd (some refl)
 not_empty (x ∷ xs) some = omega arith
-
--- it stands with a source as at its end only there
-pub is_ended-true : (feed : Feed) → is_ended feed ≡ true → feed ≡ Ended
-is_ended-true Open over = cc
-is_ended-true Ended over = refl
-is_ended-true Failed over = cc
-is_ended-true TooLong over = cc

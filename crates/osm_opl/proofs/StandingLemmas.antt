@@ -1,24 +1,29 @@
 -- How a reader's standing is kept while it gives items.
 use Rattle.std.proofs.Common.{◌≡◌, ℕ, ◌+◌, List, [], ◌∷◌, ◌++◌, length, take, Bool, true, false, refl, sym, ap, ◌∙◌, subst, arith, append_assoc, append-nil, inl, inr}
-use Rattle.std.specs.Prelude.{◌⊎◌, Some, None, OnErr, Ok, Err}
+use Rattle.std.specs.Prelude.{◌-◌, ◌⊎◌, Some, None, OnErr, Ok, Err, nat_lt}
 use Rattle.std.specs.declared.result.Result.{Result}
-use Rattle.std.proofs.lemmas.Bool.{lt-ltb, le-ltb}
-use Rattle.std.proofs.lemmas.List.{take_all}
+use Rattle.std.proofs.lemmas.Bool.{cond_both, ltb-false, ltb-true}
+use Rattle.std.proofs.lemmas.List.{take_all, take-append-le}
 use Rattle.osm_entity.specs.Items.{ItemValue}
+use Rattle.osm_entity.specs.Prefixes.{IsPrefix}
+use Rattle.osm_entity.specs.Streams.{IsBefore}
+use Rattle.osm_entity.specs.declared.stream.End.TheVariants.{Done, Broken}
+use Rattle.osm_opl_line.proofs.SettlingLemmas.{opl_reading-prefix, opl_reading-settled}
 use Rattle.osm_entity.specs.declared.verdict.Cause.{Cause}
 use Rattle.osm_entity.specs.declared.verdict.Verdict.{Verdict}
 use Rattle.osm_entity.specs.declared.verdict.Verdict.TheVariants.{Running, Clean, Passed, Input, Read, Write, Memory, TooLong as PastLimit}
 use Rattle.osm_opl_line.specs.Line.{LineValue, Skipped, Good, Bad}
 use Rattle.osm_entity.specs.declared.verdict.Spot.{Spot}
 use Rattle.osm_entity.specs.declared.verdict.Spot.TheVariants.{Line}
-use Rattle.osm_entity.specs.Readings.{Reading, Bad as BadAt, Cut, after, ending_of, verdict_read}
+use Rattle.osm_entity.specs.Readings.{Reading, Ending, Whole, Bad as BadAt, Cut, after, ending_of, stream_read, verdict_read}
 use Rattle.osm_opl_line.specs.Reading.{before, is_line, opl_reading}
-use Rattle.osm_opl.specs.Reader.{ReaderValue, CanPull, is_ended, verdict_after}
+use Rattle.osm_host.specs.Feeds.{MayCome, reached_end, verdict_after}
+use Rattle.osm_host.specs.declared.feed.Feed.TheVariants.{Open}
+use Rattle.osm_host.proofs.FeedLemmas.{may_end, take-limit, verdict_settled}
+use Rattle.osm_opl.specs.Reader.{ReaderValue, WantsPull}
 use Rattle.osm_opl.specs.Passing.{HasNoLine, SameRest, TakesLine, is_bad, item_in, items_in, passed}
-use Rattle.osm_opl.specs.Standing.{ComeFirst, FitsFeed, GaveItems, MayCome, Stands, reading_from, reader_reading}
+use Rattle.osm_opl.specs.Standing.{GaveItems, Stands, reading_from, reader_reading}
 use Rattle.osm_opl.specs.Unread.{UnreadValue, HasNoNewline, unread_bytes}
-use Rattle.osm_opl.specs.declared.feed.Feed.{Feed}
-use Rattle.osm_opl.specs.declared.feed.Feed.TheVariants.{Open, Ended, Failed, TooLong}
 use Rattle.osm_opl.proofs.KeepingLemmas.{held_all, settled_is}
 use Rattle.osm_opl.proofs.ReadingLemmas.{only, opl_reading-from, reading_from-none, is_line-open}
 
@@ -35,13 +40,6 @@ new_stands r given open_ lines none run = record {
       ∙ rw (lines, none) refl;
   over = λ not. absurd (not run);
 }
-
--- nothing more may come, where the end is as it stands with the source
-pub may_end : (feed : Feed) (came : Bool) → came ≡ is_ended feed → MayCome feed [] came
-may_end Open came is = tt
-may_end Ended came is = (refl, is)
-may_end Failed came is = (refl, is)
-may_end TooLong came is = (refl, is)
 
 -- items before the reading of an item and more
 after-cons : (items : List ItemValue) (item : ItemValue) (reading : Reading) →
@@ -112,23 +110,15 @@ gave_passed old mid value run takes =
     subst (λ r. GaveItems old (passed value r) (items_in value)) (sym takes.same)
     (passes old mid.unread value run takes.reads)
 
--- the verdict where no line is left
-verdict_settled : (feed : Feed) (limit count : ℕ) → (verdict_after feed ≡ Running → ⊥) → FitsFeed feed limit count →
-    verdict_after feed ≡ verdict_read limit count (ending_of (is_ended feed))
-verdict_settled Open limit count not fits = absurd (not refl)
-verdict_settled Ended limit count not fits = refl
-verdict_settled Failed limit count not fits = rw (le-ltb limit count fits) refl
-verdict_settled TooLong limit count not fits = rw (lt-ltb limit count fits) refl
-
 -- a reader without a line left has its verdict
 settles : (old : ReaderValue) (unread : UnreadValue) → old.verdict ≡ Running →
     unread_bytes unread ≡ unread_bytes old.unread →
-    HasNoNewline (unread_bytes old.unread) → is_line (is_ended old.feed) (unread_bytes old.unread) ≡ false →
+    HasNoNewline (unread_bytes old.unread) → is_line (reached_end old.feed) (unread_bytes old.unread) ≡ false →
     GaveItems old (record old { unread = unread; verdict = verdict_after old.feed }) []
 settles old unread run same free none = λ bytes came items s.
     let last : reading_from old.flow (old.lines + 1) (unread_bytes old.unread ++ []) came ≡ only (ending_of came) =
     rw (append-nil (unread_bytes old.unread), s.ended)
-    (reading_from-none old.flow (old.lines + 1) (unread_bytes old.unread) (is_ended old.feed) free none) in
+    (reading_from-none old.flow (old.lines + 1) (unread_bytes old.unread) (reached_end old.feed) free none) in
     let is = reading_now old bytes came items s run ∙ ap (after items) last in
     record {
       count = s.count;
@@ -172,10 +162,10 @@ OnErr-always {Q = Q} r q = elim r as (λ r. OnErr r Q) [ Ok x ↦ tt | Err e ↦
 pub gave_verdict : (old mid new : ReaderValue) → old.verdict ≡ Running → HasNoLine old mid →
     new ≡ record mid { verdict = verdict_after mid.feed } → GaveItems old new []
 gave_verdict old mid new run last is =
-    let feed : is_ended old.feed ≡ is_ended mid.feed = ap (λ r. is_ended r.feed) (sym last.same) in
-    let none : is_line (is_ended old.feed) (unread_bytes old.unread) ≡ false =
+    let feed : reached_end old.feed ≡ reached_end mid.feed = ap (λ r. reached_end r.feed) (sym last.same) in
+    let none : is_line (reached_end old.feed) (unread_bytes old.unread) ≡ false =
     ap (λ clean. is_line clean (unread_bytes old.unread)) feed
-    ∙ ap (is_line (is_ended mid.feed)) (sym last.held)
+    ∙ ap (is_line (reached_end mid.feed)) (sym last.held)
     ∙ last.none in
     subst (λ r. GaveItems old r []) (sym (settled_is old mid new last is))
     (settles old mid.unread run (held_all old mid last) (subst HasNoNewline last.held last.kept.unended) none)
@@ -199,7 +189,7 @@ items_in-none Skipped is = refl
 items_in-none (Good said) is = cc
 items_in-none (Bad cause) is = refl
 
--- a reader that passed a line in earlier lines' wake gave its items
+-- a reader that passed a line after others without an item gave its items
 pub gave_line : (first old mid new : ReaderValue) (value : LineValue) (items : List ItemValue) →
     old.verdict ≡ Running → GaveItems first old [] → TakesLine old mid value → new ≡ passed value mid →
     items_in value ≡ items → GaveItems first new items
@@ -207,6 +197,18 @@ gave_line first old mid new value items run gave takes is says =
     gave_more first old new [] items gave
     (subst (λ r. GaveItems old r items) (sym is)
     (subst (λ more. GaveItems old (passed value mid) more) says (gave_passed old mid value run takes)))
+
+-- a reader that passed a line with an item runs on
+pub runs_line : (old mid new : ReaderValue) (value : LineValue) (item : ItemValue) → old.verdict ≡ Running →
+    TakesLine old mid value → new ≡ passed value mid → Some item ≡ item_in value → new.verdict ≡ Running
+runs_line old mid new value item run takes is says =
+    ap (λ r. r.verdict) is ∙ passed-runs value mid item says ∙ ap (λ r. r.verdict) takes.same ∙ run
+  where
+    passed-runs : (value : LineValue) (r : ReaderValue) (item : ItemValue) → Some item ≡ item_in value →
+        (passed value r).verdict ≡ r.verdict
+    passed-runs Skipped r item says = cc
+    passed-runs (Good said) r item says = refl
+    passed-runs (Bad cause) r item says = cc
 
 -- a verdict is running or not
 pub runs_or_not : (verdict : Verdict) → (verdict ≡ Running) ⊎ (verdict ≡ Running → ⊥)
@@ -219,12 +221,11 @@ runs_or_not Read = inr (λ e. cc)
 runs_or_not Write = inr (λ e. cc)
 runs_or_not Memory = inr (λ e. cc)
 
--- what a reader gave is a front of the items
-pub gives_front : (r : ReaderValue) (bytes : List ℕ) (came : Bool) (items : List ItemValue) →
-    Stands r bytes came items →
-    ComeFirst items (reader_reading r bytes came).items
-gives_front r bytes came items s =
-    elim (runs_or_not r.verdict) as (λ _. ComeFirst items (reader_reading r bytes came).items) [
+-- what a reader gave comes first in the items
+pub gives_first : (r : ReaderValue) (bytes : List ℕ) (came : Bool) (items : List ItemValue) →
+    Stands r bytes came items → IsPrefix items (reader_reading r bytes came).items
+gives_first r bytes came items s =
+    elim (runs_or_not r.verdict) as (λ _. IsPrefix items (reader_reading r bytes came).items) [
       | inl run ↦ record {
         rest = (reading_from r.flow (r.lines + 1) (unread_bytes r.unread ++ []) came).items;
         joined = ap (λ reading. reading.items) (reading_now r bytes came items s run);
@@ -235,16 +236,80 @@ gives_front r bytes came items s =
       }
     ]
 
--- a reader that may be pulled has given all items of the lines that came whole
+-- a reader that wants a pull has given all items of the lines that came whole
 pub gives_all : (r : ReaderValue) (bytes : List ℕ) (came : Bool) (items : List ItemValue) → Stands r bytes came items →
-    CanPull r → (reader_reading r bytes came).items ≡ items
-gives_all r bytes came items s pulls =
+    WantsPull r → (reader_reading r bytes came).items ≡ items
+gives_all r bytes came items s wants =
     let rest : unread_bytes r.unread ++ [] ≡ r.unread.held =
-    append-nil (unread_bytes r.unread) ∙ ap (λ piece. r.unread.held ++ piece) pulls.passed ∙ append-nil r.unread.held in
-    let open_ : came ≡ false = s.ended ∙ ap is_ended pulls.feeds in
+    append-nil (unread_bytes r.unread) ∙ ap (λ piece. r.unread.held ++ piece) wants.passed ∙ append-nil r.unread.held in
+    let open_ : came ≡ false = s.ended ∙ ap reached_end wants.can.feeds in
     let none : reading_from r.flow (r.lines + 1) (unread_bytes r.unread ++ []) came ≡ only (ending_of false) =
     rw (rest, open_)
-    (reading_from-none r.flow (r.lines + 1) r.unread.held false pulls.holds.unended
-    (is_line-open r.unread.held pulls.holds.short)) in
-    ap (λ reading. reading.items) (reading_now r bytes came items s pulls.running ∙ ap (after items) none)
+    (reading_from-none r.flow (r.lines + 1) r.unread.held false wants.holds.unended
+    (is_line-open r.unread.held wants.holds.short)) in
+    ap (λ reading. reading.items) (reading_now r bytes came items s wants.can.running ∙ ap (after items) none)
     ∙ append-nil items
+
+-- what a reader gave is before the reading of what came
+pub before_now : (r : ReaderValue) (bytes : List ℕ) (came : Bool) (items : List ItemValue) → Stands r bytes came items →
+    IsBefore (record { items = items; end = Broken }) (stream_read (reader_reading r bytes came))
+before_now r bytes came items s =
+    let first = gives_first r bytes came items s in
+    record {
+      rest = first.rest;
+      front = first.joined;
+      done = λ done. let no : Broken ≡ Done = done in cc;
+    }
+
+-- the first of bytes and more
+take-parts : (n : ℕ) (bytes more : List ℕ) →
+    take n (bytes ++ more) ≡ take n bytes ++ take (n - length bytes) more
+take-parts n bytes more = by_test (nat_lt n (length bytes)) refl
+  where
+    by_test : (below : Bool) → nat_lt n (length bytes) ≡ below →
+        take n (bytes ++ more) ≡ take n bytes ++ take (n - length bytes) more
+    by_test false test = take-limit bytes more n (ltb-false n (length bytes) test)
+    by_test true test =
+        let none : n - length bytes ≡ 0 = omega (arith, ltb-true n (length bytes) test) in
+        take-append-le n bytes more (omega (arith, ltb-true n (length bytes) test))
+        ∙ sym (append-nil (take n bytes))
+        ∙ ap (λ k. take n bytes ++ take k more) (sym none)
+
+-- the reading of all that comes, by what came
+reading-more : (r : ReaderValue) (bytes more : List ℕ) (clean : Bool) →
+    reader_reading r (bytes ++ more) clean
+    ≡ opl_reading r.flow (take r.limit bytes ++ take (r.limit - length bytes) more) clean
+reading-more r bytes more clean = ap (λ all. opl_reading r.flow all clean) (take-parts r.limit bytes more)
+
+-- what a reader gave is before the reading of all that comes
+pub before_later : (r : ReaderValue) (bytes more : List ℕ) (items : List ItemValue) (clean : Bool) →
+    Stands r bytes false items →
+    IsBefore (record { items = items; end = Broken }) (stream_read (reader_reading r (bytes ++ more) clean))
+before_later r bytes more items clean s =
+    let first = gives_first r bytes false items s in
+    let grows = opl_reading-prefix r.flow (take r.limit bytes) (take (r.limit - length bytes) more) clean in
+    record {
+      rest = first.rest ++ grows.rest;
+      front = ap (λ (reading : Reading). reading.items) (reading-more r bytes more clean) ∙ grows.front
+          ∙ ap (λ all. all ++ grows.rest) first.joined ∙ append_assoc items first.rest grows.rest;
+      done = λ done. let no : Broken ≡ Done = done in cc;
+    }
+
+-- the verdict of a wrong place is that of a reading that ends there
+bad_by : (limit count : ℕ) (ending : Ending) (cause : Cause) (spot : Spot) →
+    Input cause spot ≡ verdict_read limit count ending → ending ≡ BadAt cause spot
+bad_by limit count Whole cause spot is = cc
+bad_by limit count Cut cause spot is =
+    cond_both (nat_lt limit count) PastLimit Read (λ v. Input cause spot ≡ v → Cut ≡ BadAt cause spot) (λ _ e. cc)
+    (λ _ e. cc) is
+bad_by limit count (BadAt other place) cause spot is = cc
+
+-- after a bad line more bytes change nothing
+pub bad_stays : (r : ReaderValue) (bytes more : List ℕ) (items : List ItemValue) (clean : Bool) (cause : Cause)
+    (spot : Spot) → Stands r bytes false items → r.verdict ≡ Input cause spot →
+    reader_reading r (bytes ++ more) clean ≡ reader_reading r bytes false
+bad_stays r bytes more items clean cause spot s is =
+    let over = s.over (λ run. let same : Input cause spot ≡ Running = sym is ∙ run in cc) in
+    reading-more r bytes more clean
+    ∙ opl_reading-settled r.flow (take r.limit bytes) (take (r.limit - length bytes) more) clean cause spot
+    (bad_by r.limit (length bytes) (reader_reading r bytes false).ending cause spot (sym is ∙ over.verdict))

@@ -1,17 +1,19 @@
--- Lemmas on unread bytes: parts of a buffer, and the line at the front of a piece.
+-- Lemmas on unread bytes: parts of a buffer, and the line with which a piece begins.
 use Rattle.std.proofs.Common.{◌≡◌, ℕ, ◌+◌, ◌-◌, ◌<◌, ◌≤◌, List, [], ◌∷◌, ◌++◌, length, take, drop, Bool, false, refl, sym, ap, ◌∙◌, subst, arith, append_assoc}
-use Rattle.std.specs.Prelude.{◌==◌, All}
+use Rattle.std.specs.Prelude.{◌==◌, All, Option, min}
 use Rattle.std.specs.List.{slice_split, onto_first, join_with_byte}
 use Rattle.std.proofs.lemmas.Bool.{cond_both}
-use Rattle.std.proofs.lemmas.List.{length-append, length-take, length-take-le, length-drop, take-take, take_at, drop_at, drop-drop, drop-take}
+use Rattle.std.proofs.lemmas.List.{length-append, length-take, length-take-le, take-take, take_at, take_min, drop_at, drop-drop, drop-take}
 use Rattle.std.proofs.lemmas.List.Elements.{All-nil, All-cons, All-append}
 use Rattle.std.proofs.lemmas.List.Splits.{length-slice_split, join_with_byte-slice_split}
 use Rattle.std.proofs.lemmas.Bool.{lt-ltb}
+use Rattle.std.proofs.Math.Seq.{take-add}
+use Rattle.std.specs.Io.KnownBytes.{prepend_known}
 use Rattle.osm_entity.specs.declared.kind.Flow.{Flow}
 use Rattle.osm_entity.specs.declared.verdict.Cause.TheVariants.{LineTooLong}
 use Rattle.osm_opl_line.specs.Line.{Bad, longest_line, opl_line}
 use Rattle.osm_opl_line.specs.declared.reading.LineRead.TheVariants.{Bad as ReadBad}
-use Rattle.osm_opl.specs.Found.{TookLine}
+use Rattle.osm_opl.specs.Found.{Filled, TookLine}
 use Rattle.osm_opl.specs.Unread.{UnreadValue, HasNoNewline, IsUnread, EndsAt, unread_bytes}
 
 -- unread bytes are their two lists
@@ -42,7 +44,7 @@ abbrev first_of : List (List ℕ) → List ℕ
 first_of [] = []
 first_of (part ∷ parts) = part
 
--- an element that doesn't pass, at the front of a part of which none passes
+-- an element that doesn't pass, before a part of which none passes
 onto_first-unended : (p : ℕ → Bool) (x : ℕ) (parts : List (List ℕ)) → p x ≡ false →
     All (λ y. p y ≡ false) (first_of parts) → All (λ y. p y ≡ false) (first_of (onto_first x parts))
 onto_first-unended p x [] none rest = All-cons (λ y. p y ≡ false) x [] none rest
@@ -80,7 +82,7 @@ cut_back bytes line more cut =
 -- a line and a newline before some bytes end where the line does
 pub ends_at : (bytes line more : List ℕ) → HasNoNewline line → bytes ≡ line ++ 10 ∷ more → EndsAt bytes (length line)
 ends_at bytes line more free is =
-    let front : take (length line) bytes ≡ line =
+    let first : take (length line) bytes ≡ line =
     ap (take (length line)) is ∙ take_at line (10 ∷ more) (length line) refl in
     let whole : bytes ≡ (line ++ 10 ∷ []) ++ more = is ∙ sym (append_assoc line (10 ∷ []) more) in
     let back : drop (length line + 1) bytes ≡ more =
@@ -88,8 +90,8 @@ ends_at bytes line more free is =
     ∙ drop_at (line ++ 10 ∷ []) more (length line + 1) (length-append line (10 ∷ [])) in
     record {
       within = omega (arith, ap length is, length-append line (10 ∷ more));
-      unended = subst HasNoNewline (sym front) free;
-      cut = rw (front, back) is;
+      unended = subst HasNoNewline (sym first) free;
+      cut = rw (first, back) is;
     }
 
 -- what is held and a line of the piece are a line of both
@@ -106,7 +108,6 @@ pub held_more : (u : UnreadValue) (count : ℕ) → IsUnread u → HasNoNewline 
 held_more u count kept free fits = record {
   unended = All-append (λ b. (b == 10) ≡ false) u.held (take count u.piece) kept.unended free;
   short = omega (arith, fits, length-append u.held (take count u.piece), length-take count u.piece);
-  small = omega (arith, kept.small, length-drop count u.piece);
 }
 
 -- a line of too many bytes is bad for that
@@ -128,3 +129,26 @@ long_line flow u new count kept ends long is =
           (ap unread_bytes is));
       says = sym (opl_line-long flow (u.held ++ take count u.piece) (omega (arith, size, long)));
     }
+
+-- the first of some bytes, up to a count and a room for them
+take-room : (bytes : List ℕ) (room count : ℕ) → count ≤ length bytes →
+    take (min room count) bytes ≡ take room (take count bytes)
+take-room bytes room count fits =
+    sym (take-take (min room count) count bytes (omega arith))
+    ∙ ap (λ n. take (min room n) (take count bytes)) (sym (length-take-le count bytes fits))
+    ∙ take_min room (take count bytes)
+
+-- a pull that came behind the bytes of a piece
+pub filled_behind : {S : Type 0} (rest : S → Option (List ℕ)) (before now : S) (room more count : ℕ) (buffer : List ℕ)
+    (old new : UnreadValue) → rest before ≡ prepend_known (take more (drop count buffer)) (rest now) →
+    more ≤ length (drop count buffer) → new.held ≡ old.held → old.piece ≡ take count buffer →
+    new.piece ≡ take (count + min room more) buffer → Filled rest before now room more old new
+filled_behind rest before now room more count buffer old new told fits held was is = record {
+  bytes = take more (drop count buffer);
+  told = told;
+  size = sym (length-take-le more (drop count buffer) fits);
+  piece = is ∙ take-add count (min room more) buffer
+      ∙ ap (λ first. first ++ take (min room more) (drop count buffer)) (sym was)
+      ∙ ap (λ last. old.piece ++ last) (take-room (drop count buffer) room more fits);
+  held = held;
+}

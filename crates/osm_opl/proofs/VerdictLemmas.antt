@@ -1,5 +1,5 @@
 -- Whom a verdict blames.
-use Rattle.std.proofs.Common.{◌≡◌, ℕ, ◌+◌, ◌<◌, ◌≤◌, List, [], ◌∷◌, length, take, Bool, true, false, refl, sym, ◌∙◌, subst, arith}
+use Rattle.std.proofs.Common.{◌≡◌, ℕ, ◌+◌, List, [], ◌∷◌, length, take, Bool, true, false, refl, sym, ◌∙◌, subst}
 use Rattle.std.specs.Prelude.{◌==◌, ◌≢◌, nat_lt}
 use Rattle.std.specs.List.{slice_split}
 use Rattle.std.proofs.lemmas.Bool.{cond_both, ltb-false, ltb-true}
@@ -9,11 +9,12 @@ use Rattle.osm_entity.specs.declared.verdict.Verdict.TheVariants.{Running, Clean
 use Rattle.osm_opl_line.specs.Line.{LineValue, Skipped, Good, Bad, opl_line}
 use Rattle.osm_entity.specs.Readings.{Reading, Ending, Whole, Cut, Bad as BadAt, verdict_read}
 use Rattle.osm_opl_line.specs.Reading.{before, lines_of, read_lines, opl_reading}
-use Rattle.osm_opl.specs.Reader.{ReaderValue, is_ended}
-use Rattle.osm_opl.specs.Standing.{FitsFeed, Stands, reader_reading}
-use Rattle.osm_opl.proofs.ReadingLemmas.{is_ended-true}
-use Rattle.osm_opl.specs.declared.feed.Feed.{Feed}
-use Rattle.osm_opl.specs.declared.feed.Feed.TheVariants.{Open, Ended, Failed, TooLong}
+use Rattle.osm_host.specs.Feeds.{FitsFeed, reached_end}
+use Rattle.osm_host.specs.declared.feed.Feed.{Feed}
+use Rattle.osm_host.specs.declared.feed.Feed.TheVariants.{Open, Ended, Failed, TooLong}
+use Rattle.osm_host.proofs.FeedLemmas.{failed_by, long_by, reached_end-true}
+use Rattle.osm_opl.specs.Reader.{ReaderValue}
+use Rattle.osm_opl.specs.Standing.{Stands, reader_reading}
 
 -- how a reading may end: whole only where the end came, and cut off only where it didn't
 abbrev pub EndsBy : Bool → Ending → Type 0
@@ -43,30 +44,15 @@ unfolding opl_reading
 ends_by flow bytes clean = ends_by-lines flow clean 1 (lines_of clean (slice_split (λ b. b == 10) bytes))
 
 -- a clean verdict is that of a whole file, whose end came
-clean_by : (feed : Feed) (limit count : ℕ) (ending : Ending) → EndsBy (is_ended feed) ending →
+clean_by : (feed : Feed) (limit count : ℕ) (ending : Ending) → EndsBy (reached_end feed) ending →
     Clean ≡ verdict_read limit count ending → feed ≡ Ended
-clean_by feed limit count Whole ends is = is_ended-true feed ends
+clean_by feed limit count Whole ends is = reached_end-true feed ends
 clean_by feed limit count Cut ends is =
     cond_both (nat_lt limit count) PastLimit Read (λ v. Clean ≡ v → feed ≡ Ended) (λ _ e. cc) (λ _ e. cc) is
 clean_by feed limit count (BadAt cause spot) ends is = cc
 
--- a source that is done with, without its end and within the limit, failed
-failed_by : (feed : Feed) (limit count : ℕ) → is_ended feed ≡ false → FitsFeed feed limit count → feed ≢ Open →
-    count ≤ limit → feed ≡ Failed
-failed_by Open limit count ends fits stopped within = absurd (stopped refl)
-failed_by Ended limit count ends fits stopped within = cc
-failed_by Failed limit count ends fits stopped within = refl
-failed_by TooLong limit count ends fits stopped within = absurd (omega (arith, fits, within))
-
--- a source that gave more than the limit gave too much
-long_by : (feed : Feed) (limit count : ℕ) → FitsFeed feed limit count → limit < count → feed ≡ TooLong
-long_by Open limit count fits past = absurd (omega (arith, fits, past))
-long_by Ended limit count fits past = absurd (omega (arith, fits, past))
-long_by Failed limit count fits past = absurd (omega (arith, fits, past))
-long_by TooLong limit count fits past = refl
-
 -- the verdict that a source failed is that of a file cut off within the limit
-read_by : (feed : Feed) (limit count : ℕ) (ending : Ending) → EndsBy (is_ended feed) ending →
+read_by : (feed : Feed) (limit count : ℕ) (ending : Ending) → EndsBy (reached_end feed) ending →
     FitsFeed feed limit count → (ending ≡ Cut → feed ≢ Open) → Read ≡ verdict_read limit count ending → feed ≡ Failed
 read_by feed limit count Whole ends fits stopped is = cc
 read_by feed limit count Cut ends fits stopped is =
@@ -85,7 +71,7 @@ too_long_by feed limit count (BadAt cause spot) fits is = cc
 
 -- how the reading for which a reader stands may end
 stands_ends : (r : ReaderValue) (bytes : List ℕ) (came : Bool) (items : List ItemValue) → Stands r bytes came items →
-    EndsBy (is_ended r.feed) (reader_reading r bytes came).ending
+    EndsBy (reached_end r.feed) (reader_reading r bytes came).ending
 stands_ends r bytes came items s =
     subst (λ clean. EndsBy clean (reader_reading r bytes came).ending) s.ended (ends_by r.flow
     (take r.limit bytes) came)

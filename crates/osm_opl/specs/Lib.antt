@@ -1,9 +1,8 @@
 pub mod Found
 pub mod Passing
-pub mod Pulling
-pub mod Putting
 pub mod Reader
 pub mod ReaderSeen
 pub mod Standing
 pub mod Unread
 pub mod UnreadSeen
+pub mod Written

@@ -6,8 +6,9 @@ use Rattle.osm_entity.specs.declared.verdict.Spot.TheVariants.{Line}
 use Rattle.osm_entity.specs.declared.verdict.Verdict.TheVariants.{Input}
 use Rattle.osm_opl_line.specs.Line.{LineValue, Skipped, Good, Bad}
 use Rattle.osm_opl_line.specs.Reading.{before, is_line}
-use Rattle.osm_opl.specs.Reader.{ReaderValue, is_ended}
-use Rattle.osm_opl.specs.Standing.{MayCome, reading_from}
+use Rattle.osm_host.specs.Feeds.{MayCome, reached_end}
+use Rattle.osm_opl.specs.Reader.{ReaderValue}
+use Rattle.osm_opl.specs.Standing.{reading_from}
 use Rattle.osm_opl.specs.Unread.{IsUnread, unread_bytes}
 
 -- whether a line is bad
@@ -48,7 +49,7 @@ pub record HasNoLine (old new : ReaderValue) : Type 0 where
   pub held : new.unread.held ≡ unread_bytes old.unread
   pub piece : new.unread.piece ≡ []
   pub kept : IsUnread new.unread
-  pub none : is_line (is_ended new.feed) new.unread.held ≡ false
+  pub none : is_line (reached_end new.feed) new.unread.held ≡ false
 
 -- no byte was read
 pub record SameRest (old new : ReaderValue) : Type 0 where

@@ -1,12 +1,13 @@
 -- What an OPL reader is seen as.
 -- Here the bytes that it holds are a list; the code keeps most of them where a pull put them.
-use Rattle.std.specs.Prelude.{◌≡◌, ℕ, ◌+◌, ◌^◌, ◌≤◌, ◌<◌, [], length, Bool, true, false}
+use Rattle.std.specs.Prelude.{◌≡◌, ℕ, ◌+◌, ◌^◌, ◌≤◌, ◌<◌, [], length}
 use Rattle.osm_entity.specs.declared.kind.Flow.{Flow}
 use Rattle.osm_entity.specs.declared.verdict.Verdict.{Verdict}
-use Rattle.osm_entity.specs.declared.verdict.Verdict.TheVariants.{Running, Clean, Read, TooLong as PastLimit}
+use Rattle.osm_entity.specs.declared.verdict.Verdict.TheVariants.{Running}
+use Rattle.osm_host.specs.Pulls.{FeedValue}
+use Rattle.osm_host.specs.declared.feed.Feed.{Feed}
+use Rattle.osm_host.specs.declared.feed.Feed.TheVariants.{Open}
 use Rattle.osm_opl.specs.Unread.{UnreadValue, IsUnread, unread_bytes}
-use Rattle.osm_opl.specs.declared.feed.Feed.{Feed}
-use Rattle.osm_opl.specs.declared.feed.Feed.TheVariants.{Open, Ended, Failed, TooLong}
 
 -- a reader: what it was made with, what came of its source, the lines behind it, the bytes before it, and its verdict
 pub record ReaderValue : Type 0 where
@@ -18,19 +19,13 @@ pub record ReaderValue : Type 0 where
   pub unread : UnreadValue
   pub verdict : Verdict
 
--- whether the end of the source came
-abbrev pub is_ended : Feed → Bool
-is_ended Open = false
-is_ended Ended = true
-is_ended Failed = false
-is_ended TooLong = false
-
--- the verdict where no line is left and none was bad
-abbrev pub verdict_after : Feed → Verdict
-verdict_after Open = Running
-verdict_after Ended = Clean
-verdict_after Failed = Read
-verdict_after TooLong = PastLimit
+-- what it keeps of its source
+abbrev pub fed : ReaderValue → FeedValue
+fed r = record {
+  limit = r.limit;
+  given = r.given;
+  feed = r.feed;
+}
 
 -- what every reader keeps: it counts what it reads, and reads no byte past its limit
 pub record IsReader (r : ReaderValue) : Type 0 where
@@ -39,10 +34,14 @@ pub record IsReader (r : ReaderValue) : Type 0 where
   pub counted : r.lines + length (unread_bytes r.unread) ≤ r.given
   pub within : r.feed ≡ Open → r.given ≤ r.limit
 
--- it may be pulled: it runs, its source is open, nothing is left of the last piece, and no line ends in the rest
+-- it may be pulled: it runs, and no earlier pull failed, ended or passed the limit
 pub record CanPull (r : ReaderValue) : Type 0 where
   pub running : r.verdict ≡ Running
   pub feeds : r.feed ≡ Open
+
+-- it wants a pull: it may be pulled, and what it holds is the beginning of one line, which may be good
+pub record WantsPull (r : ReaderValue) : Type 0 where
+  pub can : CanPull r
   pub passed : r.unread.piece ≡ []
   pub holds : IsUnread r.unread
 

@@ -1,42 +1,27 @@
 -- What a reader stands for: the bytes that its source gave, whether their end came, and the items that it gave.
 -- Here the bytes are one list, and their reading is that of the whole file; the code keeps neither.
-use Rattle.std.specs.Prelude.{◌≡◌, ◌≢◌, ℕ, ◌+◌, ◌≤◌, ◌<◌, List, [], ◌++◌, length, take, Bool, true, false, ◌==◌, nat_lt, if◌then◌else◌}
+use Rattle.std.specs.Prelude.{◌≡◌, ◌≢◌, ℕ, ◌+◌, List, ◌++◌, length, take, Bool, ◌==◌}
 use Rattle.std.specs.List.{slice_split}
+use Rattle.osm_entity.specs.Ascii.{newline}
 use Rattle.osm_entity.specs.Items.{ItemValue}
 use Rattle.osm_entity.specs.declared.kind.Flow.{Flow}
-use Rattle.osm_entity.specs.declared.verdict.Spot.TheVariants.{Line}
-use Rattle.osm_entity.specs.declared.verdict.Verdict.{Verdict}
-use Rattle.osm_entity.specs.declared.verdict.Verdict.TheVariants.{Running, Clean, Read, Input, TooLong as PastLimit}
+use Rattle.osm_entity.specs.declared.verdict.Verdict.TheVariants.{Running}
 use Rattle.osm_host.specs.Counts.{raised}
+use Rattle.osm_host.specs.Feeds.{FitsFeed, MayCome, reached_end}
+use Rattle.osm_host.specs.declared.feed.Feed.TheVariants.{Open}
 use Rattle.osm_entity.specs.Readings.{Reading, Cut, after, verdict_read}
 use Rattle.osm_opl_line.specs.Reading.{lines_of, read_lines, opl_reading}
-use Rattle.osm_opl.specs.Reader.{ReaderValue, is_ended}
+use Rattle.osm_opl.specs.Reader.{ReaderValue}
 use Rattle.osm_opl.specs.Unread.{unread_bytes}
-use Rattle.osm_opl.specs.declared.feed.Feed.{Feed}
-use Rattle.osm_opl.specs.declared.feed.Feed.TheVariants.{Open, Ended, Failed, TooLong}
 
 -- the reading of bytes whose first line has this number
 abbrev pub reading_from : Flow → ℕ → List ℕ → Bool → Reading
 reading_from flow number bytes clean =
-    read_lines flow clean number (lines_of clean (slice_split (λ b. b == 10) bytes))
+    read_lines flow clean number (lines_of clean (slice_split (λ b. b == newline) bytes))
 
 -- the reading of the bytes that a source gave, up to the limit of their reader
 abbrev pub reader_reading : ReaderValue → List ℕ → Bool → Reading
 reader_reading r bytes came = opl_reading r.flow (take r.limit bytes) came
-
--- what may come yet of a source: any bytes, or nothing after its end, its failure or too much
-abbrev pub MayCome : Feed → List ℕ → Bool → Type 0
-MayCome Open more clean = Unit {0}
-MayCome Ended more clean = (more ≡ []) × (clean ≡ true)
-MayCome Failed more clean = (more ≡ []) × (clean ≡ false)
-MayCome TooLong more clean = (more ≡ []) × (clean ≡ false)
-
--- a source gave more than the limit exactly where its reader says so
-abbrev pub FitsFeed : Feed → ℕ → ℕ → Type 0
-FitsFeed Open limit count = count ≤ limit
-FitsFeed Ended limit count = count ≤ limit
-FitsFeed Failed limit count = count ≤ limit
-FitsFeed TooLong limit count = limit < count
 
 -- whatever comes yet, the reading is these items and then the reading of what is unread
 abbrev pub GoesOn : ReaderValue → List ℕ → List ItemValue → Type 0
@@ -53,15 +38,10 @@ pub record IsOver (r : ReaderValue) (bytes : List ℕ) (came : Bool) (items : Li
 -- a reader stands for all bytes that its source gave, for whether their end came, and for the items that it gave
 pub record Stands (r : ReaderValue) (bytes : List ℕ) (came : Bool) (items : List ItemValue) : Type 0 where
   pub count : r.given ≡ raised 0 (length bytes)
-  pub ended : came ≡ is_ended r.feed
+  pub ended : came ≡ reached_end r.feed
   pub fits : FitsFeed r.feed r.limit (length bytes)
   pub running : r.verdict ≡ Running → GoesOn r bytes items
   pub over : r.verdict ≢ Running → IsOver r bytes came items
-
--- these items are the first of those
-pub record ComeFirst (items all : List ItemValue) : Type 0 where
-  pub rest : List ItemValue
-  pub joined : all ≡ items ++ rest
 
 -- a reader gave these items: whatever it stood for, it stands for with them added
 abbrev pub GaveItems : ReaderValue → ReaderValue → List ItemValue → Type 0

@@ -1,26 +1,26 @@
 //! Reads the items of an OPL file, pull by pull.
 ghost use Rattle.std.specs.Prelude.{◌≡◌, ℕ, ◌+◌, ◌≤◌, ◌<◌, ◌∷◌, [], length, false, IfOk, IfNone, IfSome, OnOk, OnErr, IsOk, IsTrue, ◌↔◌};
-ghost use Rattle.std.specs.Io.KnownBytes.{IsAtEnd};
 ghost use Rattle.osm_entity.specs.declared.verdict.Verdict.TheVariants.{Running};
 ghost use Rattle.osm_opl_line.specs.Seen.{line_seen};
-ghost use Rattle.osm_opl.specs.Reader.{CanPull, IsReader, SameSource, is_ended, verdict_after};
+ghost use Rattle.osm_host.specs.Feeds.{reached_end, verdict_after};
+ghost use Rattle.osm_host.specs.Pulls.{PulledOnce, piece_size, source_value};
+ghost use Rattle.osm_host.specs.declared.feed.Feed.TheVariants.{Open, Failed};
+ghost use Rattle.osm_opl_line.specs.Line.{longest_line};
+ghost use Rattle.osm_opl.specs.Reader.{CanPull, IsReader, SameSource, WantsPull, fed};
 ghost use Rattle.osm_opl.specs.Passing.{HasNoLine, SameRest, TakesLine, item_in, passed};
 ghost use Rattle.osm_opl.specs.Standing.{GaveItems, Stands};
-ghost use Rattle.osm_opl.specs.Pulling.{FaultsOfPull, PulledOnce, feed_after};
 ghost use Rattle.osm_opl.specs.Unread.{IsUnread, unread_bytes};
-ghost use Rattle.osm_opl.specs.declared.feed.Feed.TheVariants.{Open, Ended};
 
-use crate::feed::Feed;
 use crate::unread::{Found, Unread};
 use osm_entity::{Cause, Flow, Item, NoMemory, Spot, Verdict};
-use osm_host::Source;
+use osm_host::{Feed, HostError, Source};
 use osm_opl_line::LineRead;
 use std::alloc::Global;
 use std::marker::Model;
 
-/// Reads an OPL file from a source, which is passed to each pull. After a pull, `next` is called
-/// until it answers `None`, and then `pull` again as long as the verdict is running. It holds one
-/// piece of 64 KiB, and of a line that began in earlier pieces at most 16,777,216 bytes.
+/// Reads an OPL file from a source, which is passed to each pull. Where `pull` is called only after
+/// `next` answered `None`, it holds one piece of 64 KiB, and at most 16,777,216 bytes of a line
+/// that began in earlier pieces. A pull before that keeps what is left, and so adds a piece.
 #[derive(Drop)]
 pub struct OplReader {
     alloc: Global,
@@ -49,10 +49,10 @@ impl Model for OplReader {
 }
 
 impl OplReader {
-    /// A reader of a file of this flow, of which it reads so many bytes at most.
+    /// A reader of a file of this flow, of which it reads `limit` bytes at most.
     pub fn new(alloc: Global, flow: Flow, limit: u64) -> Result<OplReader, NoMemory>
         ensures stands { IfOk result (λ r. Stands r [] false []) }
-        ensures pulls { IfOk result (λ r. CanPull r) }
+        ensures wants { IfOk result (λ r. WantsPull r) }
         ensures made { IfOk result (λ r. (r.flow ≡ flow) × (r.limit ≡ limit)) }
     {
         Ok(OplReader {
@@ -90,49 +90,65 @@ impl OplReader {
     }
 
     /// Whether the source answered its end.
-    pub fn has_ended(&self) -> bool
-        ensures { result ≡ is_ended self.now.feed }
+    pub fn reached_end(&self) -> bool
+        ensures { result ≡ reached_end self.now.feed }
     {
-        self.feed.is_ended()
+        self.feed.reached_end()
     }
 
-    /// Pulls once. It may be called on a new reader, and whenever `next` answered `None` and the
-    /// verdict is running. The source's failure, its end or its excess becomes the verdict once the
-    /// items before it have been given. It takes no memory, and so never answers `NoMemory`.
+    /// Pulls once. It may be called while the verdict is running, and no earlier pull failed, ended
+    /// or passed the limit; items that weren't taken yet are kept. The source's failure, its end or
+    /// its excess becomes the verdict once the items before it have been given. After a failed pull
+    /// no byte came. It takes memory only where bytes are left of the pull before; at `NoMemory`
+    /// the reader and the source are as they were.
     pub fn pull<S: Source>(&mut self, source: &mut S) -> Result<(), NoMemory>
         requires { CanPull self.old }
+        // What came, and what the reader stands for then.
+        ensures pulled { OnOk result (PulledOnce fed Stands
+            (source_value S.rest S.given S.faults source.old)
+            (source_value S.rest S.given S.faults source.new) self.old self.new) }
+        ensures more { OnOk result (self.new.feed ≡ Open → self.old.given < self.new.given) }
+        ensures failed { OnOk result (self.new.feed ≡ Failed → self.new.given ≡ self.old.given) }
+
+        // What it holds then.
+        ensures holds { OnOk result (length (unread_bytes self.new.unread)
+            ≤ length (unread_bytes self.old.unread) + piece_size) }
+        ensures short { OnOk result (WantsPull self.old →
+            length (unread_bytes self.new.unread) ≤ longest_line + piece_size) }
+
+        // What else stays, and what is refused.
         ensures name { S.name source.new ≡ S.name source.old }
-        ensures ok { IsOk result }
-        ensures pulled { PulledOnce S.rest S.given source.old source.new self.old self.new }
-        ensures end { self.new.feed ≡ Ended → IsAtEnd (S.rest source.new) }
-        ensures more { self.new.feed ≡ Open → self.old.given < self.new.given }
-        ensures faults { FaultsOfPull self.new.feed (S.faults source.old) (S.faults source.new) }
         ensures same { (self.new.flow ≡ self.old.flow) × (self.new.limit ≡ self.old.limit)
-            × (self.new.verdict ≡ Running) }
+            × (self.new.verdict ≡ self.old.verdict) }
+        ensures ok { self.old.unread.piece ≡ [] → IsOk result }
+        ensures err { OnErr result ((self.new ≡ self.old) × (source.new ≡ source.old)) }
     {
         let room = self.limit - self.given;
         match self.unread.pull(source, room) {
             Ok(count) => {
-                self.feed = feed_after(count, room);
+                self.feed = Feed::after(count, room);
                 self.given = self.given.saturating_add(count as u64);
             }
-            Err(_) => self.feed = Feed::Failed,
+            Err(HostError::Failed) => self.feed = Feed::Failed,
+            Err(HostError::Memory) => return Err(NoMemory),
         }
         Ok(())
     }
 
     /// The next item. `None` where the whole lines that are left give no further item before their
-    /// end or before the first bad one; then `verdict` says which. At `Err` nothing was read, and
-    /// the call may be made again.
+    /// end or before the first bad one; then `verdict` says which. At `Err` it gave nothing, its
+    /// verdict is what it was, and the call may be made again.
     pub fn next(&mut self) -> Result<Option<Item>, NoMemory>
         ensures some { IfOk result (λ found. IfSome found
             (λ item. GaveItems self.old self.new (item ∷ []))) }
         ensures falls { IfOk result (λ found. IfSome found
             (λ _. length (unread_bytes self.new.unread) < length (unread_bytes self.old.unread))) }
         ensures none { IfOk result (λ found. IfNone found (GaveItems self.old self.new [])) }
+        ensures runs { IfOk result (λ found. IfSome found (λ _. self.new.verdict ≡ Running)) }
         ensures stops { IfOk result (λ found. IfNone found
-            (self.new.verdict ≡ Running → CanPull self.new)) }
+            (self.new.verdict ≡ Running → WantsPull self.new)) }
         ensures err { OnErr result (GaveItems self.old self.new []) }
+        ensures stays { OnErr result (self.new.verdict ≡ self.old.verdict) }
         ensures same { SameSource self.old self.new }
     {
         while self.is_running() {
@@ -182,7 +198,7 @@ impl OplReader {
         ensures none { IfOk result (λ found. IfNone found (HasNoLine self.old self.new)) }
         ensures err { OnErr result (SameRest self.old self.new) }
     {
-        if !self.feed.is_ended() || self.unread.is_empty() {
+        if !self.feed.reached_end() || self.unread.is_empty() {
             return Ok(None);
         }
         Ok(Some(self.unread.take_held(self.alloc, self.flow)?))
@@ -217,18 +233,5 @@ impl OplReader {
         ensures { self.new ≡ record self.old { verdict = verdict_after self.old.feed } }
     {
         self.verdict = self.feed.verdict();
-    }
-}
-
-// How it stands with a source that gave so many bytes, of which there is room for so many.
-fn feed_after(count: usize, room: u64) -> Feed
-    ensures { result ≡ feed_after count room }
-{
-    if count == 0 {
-        Feed::Ended
-    } else if count as u64 > room {
-        Feed::TooLong
-    } else {
-        Feed::Open
     }
 }

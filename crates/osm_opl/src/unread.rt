@@ -1,17 +1,22 @@
-//! The bytes that were pulled and not read yet, and the lines that come off their front.
+//! The bytes that were pulled and not read yet, and the lines that come off their beginning.
 //!
-//! A line that lies whole in one piece is read where the pull put it. Only the front of a line that
-//! goes on in the next piece is copied, and newlines are looked for in new bytes alone.
-ghost use Rattle.std.specs.Prelude.{◌≡◌, ◌+◌, ◌≤◌, ◌<◌, ◌++◌, [], length, min, take, drop, vec_len, IfOk, IfNone, IfSome, OnOk, OnErr, Ok, IsTrue, ◌↔◌};
+//! A line that lies whole in one piece is read where the pull put it. Only the beginning of a line
+//! that goes on in the next piece is copied, and newlines are looked for in new bytes alone. At a
+//! pull before all lines were taken off, what is left moves to the beginning of the buffer, which
+//! then has room for a piece behind that.
+ghost use Rattle.std.specs.Prelude.{◌≡◌, ◌+◌, ◌≤◌, ◌<◌, ◌++◌, [], length, min, take, drop, vec_len, ◌-◌, ◌≢◌, IfOk, IfNone, IfSome, IsOk, OnOk, OnErr, Ok, Err, IsTrue, ◌↔◌};
 ghost use Rattle.std.specs.Io.KnownBytes.{IsAtEnd};
-ghost use Rattle.osm_host.specs.Counts.{raised, CountsFailure};
+ghost use Rattle.osm_host.specs.Contents.{PullGives};
+ghost use Rattle.osm_host.specs.Counts.{raised, CountsFailure, CountsRefusal};
+ghost use Rattle.osm_host.specs.Pulls.{piece_size};
+ghost use Rattle.osm_host.specs.declared.outside.HostError.TheVariants.{Failed, Memory};
 ghost use Rattle.osm_opl_line.specs.Line.{longest_line, opl_line};
 ghost use Rattle.osm_opl_line.specs.Seen.{line_seen};
-ghost use Rattle.osm_opl.specs.Unread.{EndsAt, HasNoNewline, IsUnread, UnreadValue, piece_size, unread_bytes};
+ghost use Rattle.osm_opl.specs.Unread.{EndsAt, HasNoNewline, IsUnread, UnreadValue, unread_bytes};
 ghost use Rattle.osm_opl.specs.Found.{Filled, FoundIn, TookLine};
 
 use osm_entity::{Bytes, Cause, Flow, NoMemory};
-use osm_host::{Failed, Source};
+use osm_host::{Failed as PullFailed, HostError, PIECE_SIZE, Source};
 use osm_opl_line::{LineRead, read_line};
 use osm_text::first_part;
 use std::alloc::Global;
@@ -19,9 +24,6 @@ use std::marker::Model;
 
 /// The most bytes of a line.
 const LONGEST_LINE: usize = 16_777_216;
-
-/// How many bytes are asked of a source in one pull.
-const PIECE: usize = 65_536;
 
 /// What the unread bytes begin with.
 #[derive(Drop)]
@@ -37,9 +39,9 @@ pub(crate) enum Found {
 /// The bytes that were pulled and not read yet.
 #[derive(Drop)]
 pub(crate) struct Unread {
-    /// The front of a line that began in earlier pieces.
+    /// The beginning of a line that goes on in the buffer.
     held: Bytes,
-    /// What the last pull gave.
+    /// What pulls gave.
     buffer: Vec<u8>,
     /// The part of the buffer that wasn't read yet begins here.
     start: usize,
@@ -61,9 +63,9 @@ impl Model for Unread {
 
 // Room for what one pull gives.
 fn new_buffer(alloc: Global) -> Result<Vec<u8>, NoMemory>
-    ensures { IfOk result (λ v. vec_len v ≡ PIECE) }
+    ensures { IfOk result (λ v. vec_len v ≡ PIECE_SIZE) }
 {
-    match vec![in alloc; 0u8; PIECE] {
+    match vec![in alloc; 0u8; PIECE_SIZE] {
         Ok(buffer) => Ok(buffer),
         Err(_) => Err(NoMemory),
     }
@@ -78,6 +80,50 @@ fn at_most(count: usize, room: u64) -> usize
     } else {
         count
     }
+}
+
+// Moves the bytes from `start` to `stop` to the beginning of the buffer, and makes room for a piece
+// behind them. At `Err` the buffer is as it was.
+fn make_room(buffer: &mut Vec<u8>, start: usize, stop: usize) -> Result<(), NoMemory>
+    requires ordered { start ≤ stop }
+    requires within { stop ≤ vec_len buffer.old }
+    ensures moved { OnOk result (take (stop - start) buffer.new.items
+        ≡ take (stop - start) (drop start buffer.old.items)) }
+    ensures room { OnOk result ((stop - start) + PIECE_SIZE ≤ vec_len buffer.new) }
+    ensures err { OnErr result (buffer.new.items ≡ buffer.old.items) }
+    ensures ok { (stop - start) + PIECE_SIZE ≤ vec_len buffer.old → IsOk result }
+{
+    let count = stop - start;
+    let room = count.saturating_add(PIECE_SIZE);
+    if buffer.len() < room {
+        match buffer.resize(room, 0) {
+            Ok(()) => {}
+            Err(_) => return Err(NoMemory),
+        }
+    }
+    buffer.as_mut_slice().copy_within(start..stop, 0);
+    Ok(())
+}
+
+// Pulls once into the buffer, behind its first `count` bytes.
+fn pull_behind<S: Source>(
+    buffer: &mut Vec<u8>,
+    count: usize,
+    source: &mut S,
+) -> Result<usize, PullFailed>
+    requires { count + PIECE_SIZE ≤ vec_len buffer.old }
+    ensures name { S.name source.new ≡ S.name source.old }
+    ensures len { vec_len buffer.new ≡ vec_len buffer.old }
+    ensures same { take count buffer.new.items ≡ take count buffer.old.items }
+    ensures gives { PullGives result (drop count buffer.new.items)
+        (S.rest source.old) (S.rest source.new) }
+    ensures small { IfOk result (λ n. n ≤ piece_size) }
+    ensures end { result ≡ Ok 0 → IsAtEnd (S.rest source.new) }
+    ensures given { IfOk result (λ n. S.given source.new ≡ raised (S.given source.old) n) }
+    ensures idle { OnErr result (S.given source.new ≡ S.given source.old) }
+    ensures faults { CountsFailure result (S.faults source.old) (S.faults source.new) }
+{
+    source.pull(&mut buffer[count..count + PIECE_SIZE])
 }
 
 impl Unread {
@@ -107,9 +153,9 @@ impl Unread {
         self.held.len() == 0 && self.start == self.stop
     }
 
-    /// Pulls once, and keeps of what comes as much as there is room for.
-    pub(crate) fn pull<S: Source>(&mut self, source: &mut S, room: u64) -> Result<usize, Failed>
-        requires { self.old.piece ≡ [] }
+    /// Pulls once, and keeps of what comes as much as there is room for, behind what it has. At
+    /// `Memory`, which comes only where it has bytes of earlier pulls, nothing was pulled.
+    pub(crate) fn pull<S: Source>(&mut self, source: &mut S, room: u64) -> Result<usize, HostError>
         ensures name { S.name source.new ≡ S.name source.old }
         ensures filled { IfOk result
             (λ count. Filled S.rest source.old source.new room count self.old self.new) }
@@ -119,13 +165,21 @@ impl Unread {
         ensures end { result ≡ Ok 0 → IsAtEnd (S.rest source.new) }
         ensures given { IfOk result (λ n. S.given source.new ≡ raised (S.given source.old) n) }
         ensures idle { OnErr result (S.given source.new ≡ S.given source.old) }
-        ensures faults { CountsFailure result (S.faults source.old) (S.faults source.new) }
+        ensures faults { CountsRefusal result (S.faults source.old) (S.faults source.new) }
+        ensures memory { result ≡ Err Memory → source.new ≡ source.old }
+        ensures ok { self.old.piece ≡ [] → result ≢ Err Memory }
     {
+        let left = self.stop - self.start;
+        make_room(&mut self.buffer, self.start, self.stop)?;
         self.start = 0;
-        self.stop = 0;
-        let count = source.pull(self.buffer.as_mut_slice())?;
-        self.stop = at_most(count, room);
-        Ok(count)
+        self.stop = left;
+        match pull_behind(&mut self.buffer, left, source) {
+            Ok(more) => {
+                self.stop = left + at_most(more, room);
+                Ok(more)
+            }
+            Err(_) => Err(HostError::Failed),
+        }
     }
 
     /// Takes the first line off. At `Err` it has the same bytes.
@@ -161,7 +215,7 @@ impl Unread {
         }
     }
 
-    // Takes off a line whose newline stands in the piece behind so many bytes.
+    // Takes off a line whose newline stands in the piece behind `count` bytes.
     fn take_whole(&mut self, alloc: Global, flow: Flow, count: usize) -> Result<LineRead, NoMemory>
         requires { EndsAt self.old.piece count }
         ensures ok { IfOk result (λ read. TookLine flow self.old self.new read) }
@@ -220,7 +274,7 @@ impl Unread {
         Ok(Found::Unfinished)
     }
 
-    // Holds the first so many bytes of the piece.
+    // Holds the first `count` bytes of the piece.
     fn hold(&mut self, count: usize) -> Result<(), NoMemory>
         requires fits { count ≤ length self.old.piece }
         requires unended { HasNoNewline (take count self.old.piece) }
@@ -231,13 +285,13 @@ impl Unread {
         }) }
         ensures err { OnErr result (self.new ≡ self.old) }
     {
-        let front = &self.buffer[self.start..self.start + count];
-        self.held.append(front)?;
+        let first = &self.buffer[self.start..self.start + count];
+        self.held.append(first)?;
         self.start += count;
         Ok(())
     }
 
-    // Drops what is held, and the first so many bytes of the piece.
+    // Drops what is held, and the first `count` bytes of the piece.
     fn pass_over(&mut self, count: usize)
         requires { count ≤ length self.old.piece }
         ensures { self.new ≡ record { held = []; piece = drop count self.old.piece } }

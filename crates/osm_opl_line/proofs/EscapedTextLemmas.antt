@@ -12,6 +12,7 @@ use Rattle.std.proofs.lemmas.List.{append-nil}
 use Rattle.std.proofs.lemmas.List.Elements.{All-nil, All-cons, All-append, All-weaker, All-head, All-tail, All-from_get_or}
 use Rattle.std.proofs.lemmas.Str.{IsUtf8-nil, IsUtf8-append, IsUtf8-encode, encode_ascii, inside_one}
 use Rattle.osm_text.specs.Escapes.{escaped, escaped_byte, hex_escape, is_reserved}
+use Rattle.osm_text.proofs.EscapeLawLemmas.{reserved-ascii}
 use Rattle.osm_opl_line.proofs.PlainTextLemmas.{utf8-low}
 
 -- a byte of an escaped text: above the space, and no comma, = or @
@@ -64,10 +65,6 @@ hex_escape-hex n small =
     All-cons IsHexByte 37 (digits 16 false n ++ 37 ∷ []) percent-hex
     (All-append IsHexByte (digits 16 false n) (37 ∷ []) (digits-hex n small)
     (All-cons IsHexByte 37 [] percent-hex (All-nil IsHexByte)))
-
--- a reserved byte is ASCII
-reserved-ascii : (b : ℕ) → is_reserved b ≡ true → b < 128
-reserved-ascii b reserved = grind (arith, nat_tests)
 
 -- a byte that isn't reserved stays
 plain-escaped : (b : ℕ) → is_reserved b ≡ false → IsEscapedByte b

@@ -14,7 +14,7 @@ use Rattle.osm_text.specs.Numbers.{nano_text}
 use Rattle.osm_opl_line.specs.Contents.{count_in, changeset_in, deleted_in, time_in, text_in, degrees_in, tags_in}
 use Rattle.osm_opl_line.specs.Fields.{Fields, fields_from, fault_among}
 use Rattle.osm_opl_line.specs.Item.{body_of}
-use Rattle.osm_opl_line.specs.Writable.{IsBodyText}
+use Rattle.osm_entity.specs.Writable.{IsBodyText}
 use Rattle.osm_opl_line.specs.Writing.{ref_text, member_text}
 use Rattle.osm_opl_line.proofs.ContentsBackLemmas.{WholeBack, NanoBack, EscapedBack, degrees_in-nano_text}
 use Rattle.osm_opl_line.proofs.LinePiecesLemmas.{body_parts}

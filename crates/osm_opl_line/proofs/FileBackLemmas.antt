@@ -12,7 +12,7 @@ use Rattle.osm_entity.specs.declared.parts.Body.TheVariants.{Node, Way, Relation
 use Rattle.osm_opl_line.specs.Line.{Good, longest_line, opl_line}
 use Rattle.osm_entity.specs.Readings.{Reading, Whole}
 use Rattle.osm_opl_line.specs.Reading.{lines_of, before, read_lines, opl_reading}
-use Rattle.osm_opl_line.specs.Writable.{IsBodyText, IsWritable}
+use Rattle.osm_entity.specs.Writable.{IsBodyText, IsWritable}
 use Rattle.osm_opl_line.specs.Writing.{line_text, opl_text}
 use Rattle.osm_opl_line.proofs.ItemBackLemmas.{TextsBack}
 use Rattle.osm_opl_line.proofs.LineBackLemmas.{opl_line-item}

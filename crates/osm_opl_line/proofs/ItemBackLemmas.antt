@@ -4,7 +4,7 @@ use Rattle.std.specs.Prelude.{◌&&◌, ◌≢◌, map, decimal, not, nat_le, �
 use Rattle.std.specs.Fmt.{signed_decimal}
 use Rattle.std.specs.List.{join_with_byte}
 use Rattle.std.proofs.lemmas.Bool.{and_parts, le-ltb, eq-eqb, ne_eqb, both_ways}
-use Rattle.osm_entity.specs.Entities.{body_fits, degree, weight_of}
+use Rattle.osm_entity.specs.Entities.{body_fits, degree, weight_of, greatest_weight}
 use Rattle.osm_entity.specs.Items.{ItemValue, kind_of, has_place}
 use Rattle.osm_entity.specs.declared.item.Act.{Act}
 use Rattle.osm_entity.specs.declared.item.Act.TheVariants.{Keep, Create, Modify, Delete}
@@ -19,8 +19,8 @@ use Rattle.osm_text.specs.Numbers.{whole}
 use Rattle.osm_opl_line.specs.Contents.{kind_by}
 use Rattle.osm_opl_line.specs.Fields.{Fields, fields_from, fault_among}
 use Rattle.osm_opl_line.specs.Item.{version_of, is_deleted, act_of, entity_of, item_of}
-use Rattle.osm_opl_line.specs.Line.{Good, judged, lacks_place, is_changes, heaviest, after_fault, said_by, said_of}
-use Rattle.osm_opl_line.specs.Writable.{IsWritable}
+use Rattle.osm_opl_line.specs.Line.{Good, judged, lacks_place, is_changes, after_fault, said_by, said_of}
+use Rattle.osm_entity.specs.Writable.{IsWritable}
 use Rattle.osm_opl_line.specs.Writing.{act_text, time_field, tag_text, kind_letter}
 use Rattle.osm_opl_line.proofs.ContentsBackLemmas.{WholeBack, NanoBack, TimeBack, EscapedBack, is_delete, count_in-decimal, changeset_in-decimal, deleted_in-act_text, time_in-time_field, text_in-escaped}
 use Rattle.osm_opl_line.proofs.FieldsBackLemmas.{fields_with, fields_from-parts, degrees-back, body_parts-no_fault, common-no_fault, body_of-fields}
@@ -77,11 +77,11 @@ lacks_place-fields nano_back flow id v d c t i u tags (Relation members) gone fi
 
 -- fields that say an item which is light, has its place and isn't deleted where nothing is, are good
 judged-good : (f : Fields) (item : ItemValue) → item_of f ≡ item → lacks_place f.kind f ≡ false →
-    (not (is_changes f.flow) && is_deleted f) ≡ false → weight_of item.entity ≤ heaviest → judged f ≡ Good item
+    (not (is_changes f.flow) && is_deleted f) ≡ false → weight_of item.entity ≤ greatest_weight → judged f ≡ Good item
 judged-good f item same placed kept light =
-    let weight : weight_of (entity_of f) ≤ heaviest =
-    subst (λ e. weight_of e ≤ heaviest) (sym (ap (λ i. i.entity) same)) light in
-    rw (placed, kept, le-ltb heaviest (weight_of (entity_of f)) weight) (ap (λ i. Good i) same)
+    let weight : weight_of (entity_of f) ≤ greatest_weight =
+    subst (λ e. weight_of e ≤ greatest_weight) (sym (ap (λ i. i.entity) same)) light in
+    rw (placed, kept, le-ltb greatest_weight (weight_of (entity_of f)) weight) (ap (λ i. Good i) same)
 
 -- the laws of written texts
 pub record TextsBack : Type 0 where

@@ -15,7 +15,7 @@ use Rattle.osm_entity.specs.declared.parts.Tag.{Tag}
 use Rattle.osm_entity.specs.declared.verdict.Cause.{Cause}
 use Rattle.osm_entity.specs.declared.verdict.Cause.TheVariants.{BadEscape, BadField}
 use Rattle.osm_text.specs.Escapes.{escape_code, unescaped, unescaped_parts}
-use Rattle.osm_opl_line.specs.Contents.{all_in, before_all, equals_place, is_equals, parts_of, tag_in, tag_of, tags_in, text_in}
+use Rattle.osm_opl_line.specs.Contents.{all_in, before_all, position_of_equals, is_equals, parts_of, tag_in, tag_of, tags_in, text_in}
 use Rattle.osm_opl_line.specs.Item.{value_of}
 
 -- a text with a character in it isn't empty
@@ -68,16 +68,17 @@ cond-ok false said tag is = cc
 -- the key of a tag that was read isn't empty
 tag_in-named : (part : List ℕ) (tag : Tag) → tag_in part ≡ Ok tag → tag.key ≢ []
 tag_in-named part tag is empty =
-    let parts = cond-ok (nat_lt 0 (equals_place part) && nat_lt (equals_place part) (length part))
+    let parts = cond-ok (nat_lt 0 (position_of_equals part) && nat_lt (position_of_equals part) (length part))
     (tag_of (text_in (before_first is_equals part)) (text_in (after_first is_equals part))) tag is in
-    let tests = and_parts (nat_lt 0 (equals_place part)) (nat_lt (equals_place part) (length part)) parts.0 in
+    let tests = and_parts (nat_lt 0 (position_of_equals part)) (nat_lt (position_of_equals part) (length part))
+    parts.0 in
     let key = tag_of-key (text_in (before_first is_equals part)) (text_in (after_first is_equals part)) tag parts.1 in
     let none : before_first is_equals part ≡ [] =
     unescaped-empty (before_first is_equals part)
     (ok_or-ok (unescaped (before_first is_equals part)) [] (rw empty at key)) in
-    let from : 0 < equals_place part = ltb-true 0 (equals_place part) tests.0 in
-    let to : equals_place part < length part = ltb-true (equals_place part) (length part) tests.1 in
-    omega (arith, ap length none, length-take-le (equals_place part) part (omega arith))
+    let from : 0 < position_of_equals part = ltb-true 0 (position_of_equals part) tests.0 in
+    let to : position_of_equals part < length part = ltb-true (position_of_equals part) (length part) tests.1 in
+    omega (arith, ap length none, length-take-le (position_of_equals part) part (omega arith))
 
 -- values that were read are a first one and the rest
 before_all-ok : {T : Type 0} (said : Result T Cause) (more : Result (List T) Cause) (values : List T) →

@@ -15,7 +15,8 @@ pub mod MakingLemmas
 pub mod PartLemmas
 pub mod PieceLemmas
 pub mod PlainTextLemmas
+pub mod PrefixLemmas
+pub mod SettlingLemmas
 pub mod SizeLemmas
-pub mod Utf8Lemmas
 pub mod WeighingLemmas
 pub mod WritingLemmas

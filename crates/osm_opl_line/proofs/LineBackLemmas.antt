@@ -10,7 +10,7 @@ use Rattle.osm_entity.specs.Items.{ItemValue, kind_of}
 use Rattle.osm_entity.specs.declared.kind.Flow.{Flow}
 use Rattle.osm_opl_line.specs.Fields.{pieces}
 use Rattle.osm_opl_line.specs.Line.{Good, is_control, is_skipped, longest_line, opl_line, said_of}
-use Rattle.osm_opl_line.specs.Writable.{IsWritable}
+use Rattle.osm_entity.specs.Writable.{IsWritable}
 use Rattle.osm_opl_line.specs.Writing.{kind_letter, line_text}
 use Rattle.osm_opl_line.proofs.ItemBackLemmas.{TextsBack, said_of-item}
 use Rattle.osm_opl_line.proofs.LinePiecesLemmas.{IsPiece, head_part, field_parts, item_line, item-pieces, line_text-joined, pieces-joined, pieces-utf8, pieces-no_control}

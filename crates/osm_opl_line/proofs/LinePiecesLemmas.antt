@@ -22,7 +22,7 @@ use Rattle.osm_text.specs.Numbers.{nano_text}
 use Rattle.osm_text.specs.Times.{time_text}
 use Rattle.osm_opl_line.specs.Fields.{is_blank, pieces}
 use Rattle.osm_opl_line.specs.Line.{is_control}
-use Rattle.osm_opl_line.specs.Writable.{IsBodyText, IsWritable}
+use Rattle.osm_entity.specs.Writable.{IsBodyText, IsWritable}
 use Rattle.osm_opl_line.specs.Writing.{kind_letter, act_text, time_field, tag_text, ref_text, member_text, body_text, line_text}
 use Rattle.osm_opl_line.proofs.ContentsBackLemmas.{WholeBack, TimeBack, EscapedBack}
 use Rattle.osm_opl_line.proofs.EscapedTextLemmas.{IsEscapedByte, escaped-escaped, escaped-utf8}

@@ -16,7 +16,7 @@ use Rattle.osm_entity.specs.declared.parts.Tag.{Tag}
 use Rattle.osm_entity.specs.declared.verdict.Cause.{Cause}
 use Rattle.osm_text.specs.Escapes.{escaped, escaped_byte, hex_escape, is_reserved}
 use Rattle.osm_opl_line.specs.Contents.{parts_of, all_in, tag_in, ref_in, member_in, kind_by, is_equals, is_at_sign}
-use Rattle.osm_opl_line.specs.Writable.{IsTagText, IsMemberText}
+use Rattle.osm_entity.specs.Writable.{IsTagText, IsMemberText}
 use Rattle.osm_opl_line.specs.Writing.{kind_letter, tag_text, ref_text, member_text}
 use Rattle.osm_opl_line.proofs.ContentsBackLemmas.{WholeBack, EscapedBack, text_in-escaped}
 use Rattle.osm_opl_line.proofs.EscapedTextLemmas.{IsEscapedByte, escaped-escaped, escaped-utf8}
@@ -68,8 +68,8 @@ list-joined says text elements each =
     }
 
 -- the first byte that passes stands after those that don't
-position-past : (test : ℕ → Bool) (front : List ℕ) (b : ℕ) (rest : List ℕ) → HasNone test front → test b ≡ true →
-    position_or_len test (front ++ b ∷ rest) ≡ length front
+position-past : (test : ℕ → Bool) (head : List ℕ) (b : ℕ) (rest : List ℕ) → HasNone test head → test b ≡ true →
+    position_or_len test (head ++ b ∷ rest) ≡ length head
 position-past test [] b rest none passes = rw passes refl
 position-past test (c ∷ cs) b rest none passes =
     rw (
@@ -78,17 +78,17 @@ position-past test (c ∷ cs) b rest none passes =
     ) (omega arith)
 
 -- what stands before and after that byte
-before-past : (test : ℕ → Bool) (front : List ℕ) (b : ℕ) (rest : List ℕ) → HasNone test front → test b ≡ true →
-    before_first test (front ++ b ∷ rest) ≡ front
-before-past test front b rest none passes =
-    rw (position-past test front b rest none passes) (take_at front (b ∷ rest) (length front) refl)
+before-past : (test : ℕ → Bool) (head : List ℕ) (b : ℕ) (rest : List ℕ) → HasNone test head → test b ≡ true →
+    before_first test (head ++ b ∷ rest) ≡ head
+before-past test head b rest none passes =
+    rw (position-past test head b rest none passes) (take_at head (b ∷ rest) (length head) refl)
 
-after-past : (test : ℕ → Bool) (front : List ℕ) (b : ℕ) (rest : List ℕ) → HasNone test front → test b ≡ true →
-    after_first test (front ++ b ∷ rest) ≡ rest
-after-past test front b rest none passes =
-    rw (position-past test front b rest none passes)
-    (subst (λ bytes. drop (length front + 1) bytes ≡ rest) (append_assoc front (b ∷ []) rest)
-    (drop_at (front ++ b ∷ []) rest (length front + 1) (length_push front b)))
+after-past : (test : ℕ → Bool) (head : List ℕ) (b : ℕ) (rest : List ℕ) → HasNone test head → test b ≡ true →
+    after_first test (head ++ b ∷ rest) ≡ rest
+after-past test head b rest none passes =
+    rw (position-past test head b rest none passes)
+    (subst (λ bytes. drop (length head + 1) bytes ≡ rest) (append_assoc head (b ∷ []) rest)
+    (drop_at (head ++ b ∷ []) rest (length head + 1) (length_push head b)))
 
 -- the written form of a byte is not empty
 escaped_byte-nonempty : (b : ℕ) → 0 < length (escaped_byte b)
@@ -189,8 +189,8 @@ kind_letter-small Way = (omega arith, omega arith)
 kind_letter-small Relation = (omega arith, omega arith)
 
 -- an @ after a number is found
-any-past : (test : ℕ → Bool) (front : List ℕ) (b : ℕ) (rest : List ℕ) → test b ≡ true →
-    list_any test (front ++ b ∷ rest) ≡ true
+any-past : (test : ℕ → Bool) (head : List ℕ) (b : ℕ) (rest : List ℕ) → test b ≡ true →
+    list_any test (head ++ b ∷ rest) ≡ true
 any-past test [] b rest passes = rw passes refl
 any-past test (c ∷ cs) b rest passes =
     or_right (test c) (list_any test (cs ++ b ∷ rest)) (any-past test cs b rest passes)

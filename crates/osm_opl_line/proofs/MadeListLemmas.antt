@@ -5,8 +5,7 @@ use Rattle.std.specs.List.{slice_split}
 use Rattle.std.specs.Str.{IsUtf8}
 use Rattle.osm_entity.specs.declared.verdict.Cause.{Cause}
 use Rattle.osm_opl_line.specs.Contents.{all_in, before_all, parts_of}
-use Rattle.osm_opl_line.proofs.PartLemmas.{split-joined}
-use Rattle.osm_opl_line.proofs.Utf8Lemmas.{IsUtf8-around}
+use Rattle.osm_text.proofs.SplitLemmas.{IsUtf8-parts}
 
 -- the parts between commas
 abbrev pub comma_parts : List ℕ → List (List ℕ)
@@ -35,12 +34,6 @@ before_all-fine (Err cause) more fine = cc
 before_all-fine (Ok value) (Err cause) fine = cc
 before_all-fine (Ok value) (Ok values) fine = refl
 
--- the parts of UTF-8 around a first comma are UTF-8
-pub parts-utf8 : (text front back : List ℕ) → comma_parts text ≡ front ∷ comma_parts back → IsUtf8 text →
-    IsUtf8 front × IsUtf8 back
-parts-utf8 text front back is utf8 =
-    IsUtf8-around front 44 back (omega arith) (rw (split-joined 44 text front back is) at utf8)
-
 -- the values of a content are those that were read and those of the rest, which has no fault
 pub record IsReadTo {T : Type 0} (says : List ℕ → Result T Cause) (content : List ℕ) (values : List T)
     (rest : List ℕ) : Type 0 where
@@ -67,5 +60,5 @@ read-more says content values grown value rest part more read is said pushed = r
       (rw (is, said) at read.known) ∙ values_before-part values value (all_in says (comma_parts more)) ∙
       ap (λ vs. values_before vs (all_in says (comma_parts more))) (sym pushed);
   fine = before_all-fine (says part) (all_in says (comma_parts more)) (rw is at read.fine);
-  utf8 = (parts-utf8 rest part more is read.utf8).1;
+  utf8 = (IsUtf8-parts 44 rest part more (omega arith) is read.utf8).1;
 }

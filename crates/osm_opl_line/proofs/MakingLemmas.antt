@@ -6,7 +6,8 @@ use Rattle.std.specs.Result.{result_unwrap_or}
 use Rattle.std.specs.Str.Parse.{digits_value}
 use Rattle.std.proofs.lemmas.Bool.{and_from, cond_both, ltb-false, ltb-true}
 use Rattle.std.proofs.lemmas.Bool.Decides.{eqb_tells}
-use Rattle.osm_entity.specs.Entities.{EntityValue, IsEntity, body_fits, degree, weight_of}
+use Rattle.osm_entity.specs.Counts.{counted, small_count}
+use Rattle.osm_entity.specs.Entities.{EntityValue, IsEntity, body_fits, degree, greatest_weight, weight_of}
 use Rattle.osm_entity.specs.Items.{IsItem, ItemValue, has_place}
 use Rattle.osm_entity.specs.declared.item.Act.{Act}
 use Rattle.osm_entity.specs.declared.item.Act.TheVariants.{Create, Delete, Modify}
@@ -18,14 +19,14 @@ use Rattle.osm_entity.specs.declared.parts.Body.TheVariants.{Node}
 use Rattle.osm_entity.specs.declared.verdict.Cause.TheVariants.{BadCoordinate, BadNumber, Deleted, NoPlace, TooHeavy}
 use Rattle.osm_text.specs.Nano.{nano}
 use Rattle.osm_text.specs.Numbers.{are_digits, fitting, has_minus, size_fits, signed, unsigned_part, whole}
-use Rattle.osm_opl_line.specs.Contents.{changeset_in, clipped, count_in, degrees_in, small, tags_in, text_in, within}
+use Rattle.osm_opl_line.specs.Contents.{changeset_in, count_in, degrees_in, tags_in, text_in, within}
 use Rattle.osm_opl_line.specs.Fields.{Fields}
 use Rattle.osm_opl_line.specs.Item.{act_of, body_of, entity_of, is_deleted, item_of, place_of, value_of, version_of}
-use Rattle.osm_opl_line.specs.Line.{Bad, Good, heaviest, is_changes, judged, lacks_degrees, lacks_place}
+use Rattle.osm_opl_line.specs.Line.{Bad, Good, is_changes, judged, lacks_degrees, lacks_place}
 use Rattle.osm_opl_line.proofs.KeyLemmas.{tags-named}
 
 -- a number that was kept as small is below 2^31, and so is the 0 in its place
-small-below : (n : Option ℕ) → result_unwrap_or (ok_or (option_and_then small n) BadNumber) 0 < 2 ^ 31
+small-below : (n : Option ℕ) → result_unwrap_or (ok_or (option_and_then small_count n) BadNumber) 0 < 2 ^ 31
 small-below None = omega arith
 small-below (Some n) =
     cond_both (nat_lt n (2 ^ 31)) (Some n) None (λ o. result_unwrap_or (ok_or o BadNumber) 0 < 2 ^ 31)
@@ -34,23 +35,23 @@ small-below (Some n) =
 -- a version or uid is below 2^31
 count-below : (field : Option (List ℕ)) → value_of 0 count_in field < 2 ^ 31
 count-below None = omega arith
-count-below (Some content) = small-below (option_map clipped (whole content))
+count-below (Some content) = small-below (option_map counted (whole content))
 
 -- a negative number is read as 0
-clipped-negative : (n : ℕ) → clipped (neg_ℤ (pos n)) ≡ 0
-clipped-negative zero = refl
-clipped-negative (suc n) = refl
+counted-negative : (n : ℕ) → counted (neg_ℤ (pos n)) ≡ 0
+counted-negative zero = refl
+counted-negative (suc n) = refl
 
 -- a number that isn't negative and lies in 64 bits is below 2^63
-clipped-below : (minus : Bool) (n : ℕ) →
-    result_unwrap_or (ok_or (option_map clipped (fitting minus n)) BadNumber) 0 < 2 ^ 63
-clipped-below true n =
+counted-below : (minus : Bool) (n : ℕ) →
+    result_unwrap_or (ok_or (option_map counted (fitting minus n)) BadNumber) 0 < 2 ^ 63
+counted-below true n =
     cond_both (size_fits true n) (Some (signed true n)) None
-    (λ o. result_unwrap_or (ok_or (option_map clipped o) BadNumber) 0 < 2 ^ 63)
-    (λ _. rw (clipped-negative n) (omega arith)) (λ _. omega arith)
-clipped-below false n =
+    (λ o. result_unwrap_or (ok_or (option_map counted o) BadNumber) 0 < 2 ^ 63)
+    (λ _. rw (counted-negative n) (omega arith)) (λ _. omega arith)
+counted-below false n =
     cond_both (size_fits false n) (Some (signed false n)) None
-    (λ o. result_unwrap_or (ok_or (option_map clipped o) BadNumber) 0 < 2 ^ 63)
+    (λ o. result_unwrap_or (ok_or (option_map counted o) BadNumber) 0 < 2 ^ 63)
     (λ fits. ltb-true n (2 ^ 63) fits) (λ _. omega arith)
 
 -- a changeset is below 2^63
@@ -59,10 +60,10 @@ changeset-below None = omega arith
 changeset-below (Some content) =
     cond_both (are_digits (length content) (unsigned_part content))
     (fitting (has_minus content) (digits_value 10 (unsigned_part content))) None
-    (λ o. result_unwrap_or (ok_or (option_map clipped o) BadNumber) 0 < 2 ^ 63)
-    (λ _. clipped-below (has_minus content) (digits_value 10 (unsigned_part content))) (λ _. omega arith)
+    (λ o. result_unwrap_or (ok_or (option_map counted o) BadNumber) 0 < 2 ^ 63)
+    (λ _. counted-below (has_minus content) (digits_value 10 (unsigned_part content))) (λ _. omega arith)
 
--- a number of nanodegrees lies within so many degrees
+-- a number of nanodegrees lies within a number of degrees
 abbrev IsWithin : ℕ → Option ℤ → Type 0
 IsWithin most degrees = IfSome degrees (λ n. IsTrue (nat_le (nat_abs n) (most * degree)))
 
@@ -105,10 +106,10 @@ tests-failed false false false item said is = (refl, refl)
 
 -- fields that say an item lack no place and aren't too heavy
 judged-good : (f : Fields) → judged f ≡ Good (item_of f) →
-    (lacks_place f.kind f ≡ false) × (nat_lt heaviest (weight_of (entity_of f)) ≡ false)
+    (lacks_place f.kind f ≡ false) × (nat_lt greatest_weight (weight_of (entity_of f)) ≡ false)
 judged-good f good =
     tests-failed (lacks_place f.kind f) (not (is_changes f.flow) && is_deleted f)
-    (nat_lt heaviest (weight_of (entity_of f))) (item_of f) (item_of f) good
+    (nat_lt greatest_weight (weight_of (entity_of f))) (item_of f) (item_of f) good
 
 -- an entity has the values of fields, whatever its id and time
 pub record IsEntityOf (f : Fields) (e : EntityValue) : Type 0 where
@@ -128,7 +129,7 @@ entity-kept f e is good = record {
   named = rw is.tags (tags-named f.tags);
   in_range = rw is.body (body-fits f.kind f);
   light =
-      rw (is.user, is.tags, is.body) (ltb-false heaviest (weight_of (entity_of f)) (judged-good f good).1);
+      rw (is.user, is.tags, is.body) (ltb-false greatest_weight (weight_of (entity_of f)) (judged-good f good).1);
 }
 
 -- a place is there where none is lacking

@@ -1,32 +1,21 @@
 -- Parts that are cut at a byte.
-use Rattle.std.proofs.Common.{◌≡◌, ◌<◌, ◌+◌, ◌-◌, ◌∷◌, ◌++◌, [], ℕ, Bool, true, false, List, length, take, drop, get_or, None, Some, arith, refl, ap, sym, ◌∙◌, nat_lt}
-use Rattle.std.specs.Prelude.{◌==◌, if◌then◌else◌}
-use Rattle.std.specs.List.{position, position_or_len, before_first, after_first, list_any, slice_split}
+use Rattle.std.proofs.Common.{◌≡◌, ◌<◌, ◌+◌, ◌-◌, ℕ, Bool, true, false, List, length, take, drop, get_or, None, Some, arith, sym, nat_lt}
+use Rattle.std.specs.List.{position, position_or_len, before_first, after_first, list_any}
 use Rattle.std.specs.Str.{IsUtf8}
 use Rattle.std.proofs.lemmas.Bool.{ltb-true, ltb-false}
 use Rattle.std.proofs.lemmas.List.{take_rest}
 use Rattle.std.proofs.lemmas.List.Elements.{All-from_get_or}
 use Rattle.std.proofs.lemmas.List.Folds.{list_any_at, list_any_none}
-use Rattle.std.proofs.lemmas.List.Splits.{length-slice_split, join_with_byte-slice_split}
 use Rattle.std.proofs.lemmas.List.Sums.{fails_before_first, passes_at_first, split_at_first}
-use Rattle.osm_opl_line.proofs.Utf8Lemmas.{IsUtf8-around}
-
--- a place kept by a test is that place, and the test passed
-kept : (test : Bool) (place at : ℕ) → Some at ≡ (if test then Some place else None) → (place ≡ at) × (test ≡ true)
-kept true place at is = (cc, refl)
-kept false place at is = cc
-
--- where a test kept no place, it failed
-lost : (test : Bool) (place : ℕ) → None ≡ (if test then Some place else None) → test ≡ false
-lost true place is = cc
-lost false place is = refl
+use Rattle.osm_text.proofs.KeptLemmas.{kept_some, kept_none}
+use Rattle.osm_text.proofs.SplitLemmas.{IsUtf8-around}
 
 -- a place that was found is the first that passes, and lies within the bytes
 pub position-some : (test : ℕ → Bool) (bytes : List ℕ) (at : ℕ) → Some at ≡ position test bytes →
     (position_or_len test bytes ≡ at) × (position_or_len test bytes < length bytes)
 position-some test bytes at is =
-    let found = kept (nat_lt (position_or_len test bytes) (length bytes)) (position_or_len test bytes) at is in
-    (found.0, ltb-true (position_or_len test bytes) (length bytes) found.1)
+    let found = kept_some (nat_lt (position_or_len test bytes) (length bytes)) (position_or_len test bytes) at is in
+    (sym found.0, ltb-true (position_or_len test bytes) (length bytes) found.1)
 
 -- where a place was found, some byte passes
 pub list_any-found : (test : ℕ → Bool) (bytes : List ℕ) (at : ℕ) → Some at ≡ position test bytes →
@@ -40,7 +29,7 @@ pub list_any-not_found : (test : ℕ → Bool) (bytes : List ℕ) → None ≡ p
     list_any test bytes ≡ false
 list_any-not_found test bytes is =
     let at_end = ltb-false (position_or_len test bytes) (length bytes)
-    (lost (nat_lt (position_or_len test bytes) (length bytes)) (position_or_len test bytes) is) in
+    (kept_none (nat_lt (position_or_len test bytes) (length bytes)) (position_or_len test bytes) is) in
     list_any_none test bytes
     (All-from_get_or (λ b. test b ≡ false) bytes 0 (λ i below. fails_before_first test bytes i 0 (omega arith)))
 
@@ -55,19 +44,3 @@ IsUtf8-cut test bytes at ascii is whole =
     rw (← found.0, take_rest)
     (IsUtf8-around (before_first test bytes) here (after_first test bytes)
     (ascii here (passes_at_first test bytes 0 found.1)) (rw joined at whole))
-
--- what is cut in parts is the first part, the byte, and the rest whose parts follow
-split-front : (byte : ℕ) (bytes front back : List ℕ) (parts : List (List ℕ)) →
-    slice_split (λ b. b == byte) back ≡ parts → slice_split (λ b. b == byte) bytes ≡ front ∷ parts →
-    bytes ≡ front ++ byte ∷ back
-split-front byte bytes front back [] rest is =
-    absurd (omega (arith, length-slice_split (λ b. b == byte) back, ap length rest))
-split-front byte bytes front back (part ∷ parts) rest is =
-    let whole = rw is at (join_with_byte-slice_split byte bytes) in
-    let more = rw rest at (join_with_byte-slice_split byte back) in
-    sym whole ∙ ap (λ t. front ++ byte ∷ t) more
-
--- the first part, the byte and the rest are what was cut
-pub split-joined : (byte : ℕ) (bytes front back : List ℕ) →
-    slice_split (λ b. b == byte) bytes ≡ front ∷ slice_split (λ b. b == byte) back → bytes ≡ front ++ byte ∷ back
-split-joined byte bytes front back is = split-front byte bytes front back (slice_split (λ b. b == byte) back) refl is

@@ -10,7 +10,7 @@ use Rattle.std.proofs.lemmas.List.Elements.{All-from_get_or}
 use Rattle.std.proofs.lemmas.List.Sums.{fails_before_first, passes_at_first}
 use Rattle.std.proofs.lemmas.List.Splits.{slice_split-cons_yes, slice_split-cons_no, slice_split_first, slice_split_none}
 use Rattle.std.proofs.lemmas.Option.{cond_some}
-use Rattle.std.proofs.lemmas.Str.{IsUtf8-take, IsUtf8-drop, IsCharBoundary-before_ascii, IsCharBoundary-after_ascii}
+use Rattle.std.proofs.lemmas.Str.{IsUtf8-drop, IsCharBoundary-after_ascii}
 use Rattle.osm_opl_line.specs.Fields.{is_blank, pieces}
 
 -- UTF-8 after a first ASCII character is UTF-8
@@ -20,7 +20,7 @@ IsUtf8-after_first bytes some ascii whole =
     rw take_rest (IsUtf8-drop bytes 1 whole (IsCharBoundary-after_ascii bytes 0 whole some ascii))
 
 -- a space or tab is an ASCII character
-ascii-from_blank : (b : ℕ) → is_blank b ≡ true → b < 128
+pub ascii-from_blank : (b : ℕ) → is_blank b ≡ true → b < 128
 ascii-from_blank b blank = grind (arith, nat_tests)
 
 -- a space or tab parts nothing from what follows it
@@ -82,13 +82,3 @@ pieces-last bytes none letter plain =
     (λ i below. fails_before_first is_blank bytes i 0 (omega arith)) in
     let one = slice_split_none is_blank bytes plain_bytes in
     rw (slice_split-cons_no is_blank letter bytes plain, one) (pieces-kept letter bytes [])
-
--- UTF-8 around a space or tab is UTF-8
-pub IsUtf8-around_blank : (bytes : List ℕ) (k : ℕ) → position is_blank bytes ≡ Some k → IsUtf8 bytes →
-    IsUtf8 (take k bytes) × IsUtf8 (take (length bytes - (k + 1)) (drop (k + 1) bytes))
-IsUtf8-around_blank bytes k found whole =
-    let place = blank-at_position bytes k found in
-    let ascii = ascii-from_blank (get_or bytes k 0) place.2 in (
-      IsUtf8-take bytes k whole (IsCharBoundary-before_ascii bytes k place.1 ascii),
-      rw take_rest (IsUtf8-drop bytes (k + 1) whole (IsCharBoundary-after_ascii bytes k whole place.1 ascii)),
-    )

@@ -8,7 +8,7 @@ use Rattle.std.proofs.lemmas.List.Sums.{sum_by-cons}
 use Rattle.osm_entity.specs.declared.verdict.Cause.{Cause}
 use Rattle.osm_opl_line.specs.Contents.{all_in, before_all, parts_of}
 use Rattle.osm_opl_line.specs.Cut.{weighed}
-use Rattle.osm_opl_line.proofs.PartLemmas.{split-joined}
+use Rattle.osm_text.proofs.SplitLemmas.{split-joined}
 
 -- a weight before that of what follows, where nothing is bad
 abbrev pub after_weight : ℕ → Result ℕ Cause → Result ℕ Cause
@@ -24,14 +24,14 @@ after_weight-zero : (rest : Result ℕ Cause) → after_weight 0 rest ≡ rest
 after_weight-zero (Ok more) = ap Ok (omega arith)
 after_weight-zero (Err cause) = refl
 
--- a bad part in front
+-- a bad part comes first
 weighed-before_bad : {T : Type 0} (weight : T → ℕ) (first : Result T Cause) (cause : Cause)
     (more : Result (List T) Cause) → weighed weight first ≡ Err cause →
     weighed (sum_by weight) (before_all first more) ≡ Err cause
 weighed-before_bad weight (Ok value) cause more is = cc
 weighed-before_bad weight (Err other) cause more is = is
 
--- a part of this weight in front
+-- a part of this weight comes first
 weighed-before_good : {T : Type 0} (weight : T → ℕ) (first : Result T Cause) (n : ℕ) (more : Result (List T) Cause) →
     weighed weight first ≡ Ok n →
     weighed (sum_by weight) (before_all first more) ≡ after_weight n (weighed (sum_by weight) more)
@@ -47,11 +47,11 @@ after_weight-twice total n (Ok more) = ap Ok (omega arith)
 after_weight-twice total n (Err cause) = refl
 
 -- a part, its comma and the rest have the length of the bytes
-pub length-split : (bytes front back : List ℕ) →
-    slice_split (λ b. b == 44) bytes ≡ front ∷ slice_split (λ b. b == 44) back →
-    length front + 1 + length back ≡ length bytes
-length-split bytes front back is =
-    rw (split-joined 44 bytes front back is, length-append) (omega arith)
+pub length-split : (bytes head rest : List ℕ) →
+    slice_split (λ b. b == 44) bytes ≡ head ∷ slice_split (λ b. b == 44) rest →
+    length head + 1 + length rest ≡ length bytes
+length-split bytes head rest is =
+    rw (split-joined 44 bytes head rest is, length-append) (omega arith)
 
 -- one part more was weighed
 pub weighed-step : {T : Type 0} (weight : T → ℕ) (says : List ℕ → Result T Cause) (sum : Result ℕ Cause)

@@ -6,10 +6,11 @@ use Rattle.std.proofs.lemmas.List.{append-nil}
 use Rattle.std.proofs.lemmas.Result.{on_err_weaker, on_ok_weaker}
 use Rattle.osm_entity.specs.Entities.{EntityValue}
 use Rattle.osm_entity.specs.Items.{ItemValue}
+use Rattle.osm_entity.specs.Prefixes.{IsPrefix}
 use Rattle.osm_entity.specs.declared.sequence.NoMemory.{NoMemory}
 use Rattle.osm_text.specs.Escapes.{escaped}
 use Rattle.osm_opl_line.specs.LineParts.{author_text, head_text, lists_text}
-use Rattle.osm_opl_line.specs.Writing.{BeginsWith, body_text, line_text, tag_text, time_field}
+use Rattle.osm_opl_line.specs.Writing.{body_text, line_text, tag_text, time_field}
 
 -- three parts and an end, piece by piece
 pieces-append : (out head t time i uid u user tags_name tags body end : List ℕ) →
@@ -36,7 +37,7 @@ append-line r item entity out first second third new same head author lists last
 -- what three appends leave begins with what was there
 pub append-begins : (r : Result (Unit {0}) NoMemory) (out first second third new a b c : List ℕ) →
     first ≡ out ++ a → second ≡ first ++ b → third ≡ second ++ c → OnErr r (new ≡ third) →
-    OnErr r (BeginsWith out new)
+    OnErr r (IsPrefix out new)
 append-begins r out first second third new a b c one two three last =
     on_err_weaker r
     (λ is. record { rest = a ++ (b ++ c); joined = simp append_assoc at (rw (three, two, one) at is) }) last
@@ -59,6 +60,6 @@ pub append-list : {T : Type 0} (r : Result (Unit {0}) NoMemory) (text : T → Li
     (out one new : List ℕ) → 0 < length parts → first ≡ get_or parts 0 first → one ≡ out ++ text first →
     OnOk r (new ≡ one ++ flat_map (λ part. 44 ∷ text part) (drop 1 parts)) →
     OnOk r (new ≡ out ++ join_with_byte 44 (map text parts))
-append-list r text first parts out one new some is front last =
+append-list r text first parts out one new some is first_is last =
     on_ok_weaker r (λ more. rw (join_with_byte-first text first parts some is)
-    (simp append_assoc at (rw front at more))) last
+    (simp append_assoc at (rw first_is at more))) last

@@ -1,8 +1,10 @@
 -- What the content of a field says: a value, or a cause why it is bad.
 -- Here a content is cut at once at its commas; the code goes from one part to the next.
-use Rattle.std.specs.Prelude.{ℕ, ℤ, pos, negsuc, nat_abs, ◌*◌, ◌^◌, List, [], ◌∷◌, length, Bool, true, false, ◌&&◌, ◌==◌, nat_lt, nat_le, if◌then◌else◌, Option, Some, None, Result, Ok, Err}
+use Rattle.std.specs.Prelude.{ℕ, ℤ, nat_abs, ◌*◌, List, [], ◌∷◌, length, Bool, true, false, ◌&&◌, ◌==◌, nat_lt, nat_le, if◌then◌else◌, Option, Some, None, Result, Ok, Err}
 use Rattle.std.specs.List.{slice_split, position_or_len, before_first, after_first, list_any}
 use Rattle.std.specs.Option.{option_map, option_and_then, ok_or}
+use Rattle.osm_entity.specs.Ascii.{comma, equals_sign, at_sign, letter_n, letter_w, letter_r, capital_d, capital_v}
+use Rattle.osm_entity.specs.Counts.{counted, small_count}
 use Rattle.osm_entity.specs.Entities.{degree}
 use Rattle.osm_entity.specs.declared.kind.Kind.{Kind}
 use Rattle.osm_entity.specs.declared.kind.Kind.TheVariants.{Node, Way, Relation}
@@ -15,26 +17,20 @@ use Rattle.osm_text.specs.Nano.{nano}
 use Rattle.osm_text.specs.Numbers.{whole}
 use Rattle.osm_text.specs.Times.{time}
 
--- a number that isn't negative; 0 in the place of a negative one
-abbrev pub clipped : ℤ → ℕ
-clipped (pos n) = n
-clipped (negsuc n) = 0
-
--- a number up to 2^31 - 1
-abbrev pub small : ℕ → Option ℕ
-small n = if nat_lt n (2 ^ 31) then Some n else None
-
--- a version or uid is a whole number up to 2^31 - 1, where a negative one is read as 0
+-- a version or uid is a whole number below 2^31, where a negative one is read as 0
 abbrev pub count_in : List ℕ → Result ℕ Cause
-count_in content = ok_or (option_and_then small (option_map clipped (whole content))) BadNumber
+count_in content = ok_or (option_and_then small_count (option_map counted (whole content))) BadNumber
 
 -- a changeset is a whole number, where a negative one is read as 0
 abbrev pub changeset_in : List ℕ → Result ℕ Cause
-changeset_in content = ok_or (option_map clipped (whole content)) BadNumber
+changeset_in content = ok_or (option_map counted (whole content)) BadNumber
 
 -- whether an entity is deleted: V says that it is visible, and D that it is deleted
 abbrev pub deleted_in : List ℕ → Result Bool Cause
-deleted_in (letter ∷ []) = if letter == 86 then Ok false else if letter == 68 then Ok true else Err BadField
+deleted_in (letter ∷ []) =
+    if letter == capital_v then Ok false
+    else if letter == capital_d then Ok true
+    else Err BadField
 deleted_in content = Err BadField
 
 -- a time, or 0 where nothing is said
@@ -46,7 +42,7 @@ time_in content = ok_or (time content) BadTime
 abbrev pub text_in : List ℕ → Result (List ℕ) Cause
 text_in content = ok_or (unescaped content) BadEscape
 
--- a number of nanodegrees of at most so many degrees in size
+-- nanodegrees, of at most this number of degrees in size
 abbrev pub within : ℕ → Option ℤ → Result (Option ℤ) Cause
 within most None = Err BadNumber
 within most (Some n) = if nat_le (nat_abs n) (most * degree) then Ok (Some n) else Err BadCoordinate
@@ -59,7 +55,7 @@ degrees_in most content = within most (nano content)
 -- the parts between commas; none where nothing is said
 abbrev pub parts_of : List ℕ → List (List ℕ)
 parts_of [] = []
-parts_of content = slice_split (λ b. b == 44) content
+parts_of content = slice_split (λ b. b == comma) content
 
 -- a value before others, where there is no cause; else the first cause
 abbrev pub before_all : {T : Type 0} → Result T Cause → Result (List T) Cause → Result (List T) Cause
@@ -80,16 +76,16 @@ tag_of (Ok key) (Ok value) = Ok (record { key = key; value = value })
 
 -- the sign between a key and its value
 abbrev pub is_equals : ℕ → Bool
-is_equals b = b == 61
+is_equals b = b == equals_sign
 
--- the place of the first = of a tag
-abbrev pub equals_place : List ℕ → ℕ
-equals_place part = position_or_len is_equals part
+-- the position of the first = of a tag, and its length where it has none
+abbrev pub position_of_equals : List ℕ → ℕ
+position_of_equals part = position_or_len is_equals part
 
 -- a tag is cut at its first =, and its key isn't empty
 abbrev pub tag_in : List ℕ → Result Tag Cause
 tag_in part =
-    if nat_lt 0 (equals_place part) && nat_lt (equals_place part) (length part)
+    if nat_lt 0 (position_of_equals part) && nat_lt (position_of_equals part) (length part)
     then tag_of (text_in (before_first is_equals part)) (text_in (after_first is_equals part))
     else Err BadField
 
@@ -100,7 +96,7 @@ tags_in content = all_in tag_in (parts_of content)
 -- a ref is n and a whole number
 abbrev pub ref_in : List ℕ → Result ℤ Cause
 ref_in [] = Err BadField
-ref_in (letter ∷ id) = if letter == 110 then ok_or (whole id) BadNumber else Err BadField
+ref_in (letter ∷ id) = if letter == letter_n then ok_or (whole id) BadNumber else Err BadField
 
 -- refs, parted by commas
 abbrev pub refs_in : List ℕ → Result (List ℤ) Cause
@@ -109,14 +105,14 @@ refs_in content = all_in ref_in (parts_of content)
 -- the kind of a letter: n for nodes, w for ways, r for relations
 abbrev pub kind_by : ℕ → Option Kind
 kind_by letter =
-    if letter == 110 then Some Node
-    else if letter == 119 then Some Way
-    else if letter == 114 then Some Relation
+    if letter == letter_n then Some Node
+    else if letter == letter_w then Some Way
+    else if letter == letter_r then Some Relation
     else None
 
 -- the sign between a member's number and its role
 abbrev pub is_at_sign : ℕ → Bool
-is_at_sign b = b == 64
+is_at_sign b = b == at_sign
 
 -- a member of its kind, id and role, or the first cause of the three
 abbrev pub member_of : Option Kind → Option ℤ → Result (List ℕ) Cause → Result Member Cause

@@ -3,6 +3,7 @@
 use Rattle.std.specs.Prelude.{ℕ, ℤ, ◌≡◌, ◌≤◌, ◌*◌, ◌==◌, List, [], false, if◌then◌else◌, Option, Some, None, Result, Ok, Err, is_some, length, not, sum_by}
 use Rattle.std.specs.Borrow.{Bor}
 use Rattle.std.specs.Option.{option_map, option_or}
+use Rattle.osm_entity.specs.Ascii.{letter_c, letter_d, letter_i, letter_t, letter_u, letter_v, letter_x, letter_y, capital_m, capital_n, capital_t}
 use Rattle.osm_entity.specs.Entities.{tag_weight, member_weight}
 use Rattle.osm_entity.specs.declared.kind.Flow.{Flow}
 use Rattle.osm_entity.specs.declared.kind.Kind.{Kind}
@@ -24,17 +25,17 @@ seen slot = option_map (λ s. s.now) slot
 -- the content that was met with this letter
 abbrev pub slot_of : Draft → ℕ → Option (List ℕ)
 slot_of draft letter =
-    if letter == 118 then seen draft.v
-    else if letter == 100 then seen draft.d
-    else if letter == 99 then seen draft.c
-    else if letter == 116 then seen draft.t
-    else if letter == 105 then seen draft.i
-    else if letter == 117 then seen draft.u
-    else if letter == 84 then seen draft.tags
-    else if letter == 120 then seen draft.x
-    else if letter == 121 then seen draft.y
-    else if letter == 78 then seen draft.refs
-    else if letter == 77 then seen draft.members
+    if letter == letter_v then seen draft.v
+    else if letter == letter_d then seen draft.d
+    else if letter == letter_c then seen draft.c
+    else if letter == letter_t then seen draft.t
+    else if letter == letter_i then seen draft.i
+    else if letter == letter_u then seen draft.u
+    else if letter == capital_t then seen draft.tags
+    else if letter == letter_x then seen draft.x
+    else if letter == letter_y then seen draft.y
+    else if letter == capital_n then seen draft.refs
+    else if letter == capital_m then seen draft.members
     else None
 
 -- a draft has the numbers and the weights of its fields, none of which has a fault

@@ -4,6 +4,7 @@ use Rattle.std.specs.Prelude.{ℕ, ℤ, List, [], ◌∷◌, length, Bool, ◌||
 use Rattle.std.specs.List.{slice_split, filter, list_any}
 use Rattle.std.specs.Option.{option_or}
 use Rattle.std.specs.Result.{result_err}
+use Rattle.osm_entity.specs.Ascii.{tab, space, letter_c, letter_d, letter_i, letter_t, letter_u, letter_v, letter_x, letter_y, capital_m, capital_n, capital_t}
 use Rattle.osm_entity.specs.declared.kind.Flow.{Flow}
 use Rattle.osm_entity.specs.declared.kind.Kind.{Kind}
 use Rattle.osm_entity.specs.declared.kind.Kind.TheVariants.{Node as OfNode, Way as OfWay, Relation as OfRelation}
@@ -30,7 +31,7 @@ pub record Fields : Type 0 where
 
 -- spaces and tabs part the pieces of a line
 abbrev pub is_blank : ℕ → Bool
-is_blank b = (b == 32) || (b == 9)
+is_blank b = (b == space) || (b == tab)
 
 -- a line's pieces: its longest parts without spaces and tabs
 abbrev pub pieces : List ℕ → List (List ℕ)
@@ -49,8 +50,8 @@ field letter (piece ∷ more) = option_or (content_of letter piece) (field lette
 -- the content of N of a way, or of M of a relation
 abbrev pub list_field : Kind → List (List ℕ) → Option (List ℕ)
 list_field OfNode parts = None
-list_field OfWay parts = field 78 parts
-list_field OfRelation parts = field 77 parts
+list_field OfWay parts = field capital_n parts
+list_field OfRelation parts = field capital_m parts
 
 -- the fields of an entity: v, d, c, t, i, u, T, x, y and the list of its kind
 abbrev pub fields_from : Flow → Kind → ℤ → List (List ℕ) → Fields
@@ -58,15 +59,15 @@ fields_from flow kind id parts = record {
   flow = flow;
   kind = kind;
   id = id;
-  v = field 118 parts;
-  d = field 100 parts;
-  c = field 99 parts;
-  t = field 116 parts;
-  i = field 105 parts;
-  u = field 117 parts;
-  tags = field 84 parts;
-  x = field 120 parts;
-  y = field 121 parts;
+  v = field letter_v parts;
+  d = field letter_d parts;
+  c = field letter_c parts;
+  t = field letter_t parts;
+  i = field letter_i parts;
+  u = field letter_u parts;
+  tags = field capital_t parts;
+  x = field letter_x parts;
+  y = field letter_y parts;
   list = list_field kind parts;
 }
 
@@ -97,16 +98,16 @@ is_letter_of kind letter = is_one_of (codes "vdctiuT") letter || is_one_of (own_
 -- what is wrong with a content, by the letter before it
 abbrev pub content_fault : ℕ → List ℕ → Option Cause
 content_fault letter content =
-    if letter == 118 then result_err (count_in content)
-    else if letter == 100 then result_err (deleted_in content)
-    else if letter == 99 then result_err (changeset_in content)
-    else if letter == 116 then result_err (time_in content)
-    else if letter == 105 then result_err (count_in content)
-    else if letter == 117 then result_err (text_in content)
-    else if letter == 84 then result_err (tags_in content)
-    else if letter == 120 then result_err (degrees_in 180 content)
-    else if letter == 121 then result_err (degrees_in 90 content)
-    else if letter == 78 then result_err (refs_in content)
+    if letter == letter_v then result_err (count_in content)
+    else if letter == letter_d then result_err (deleted_in content)
+    else if letter == letter_c then result_err (changeset_in content)
+    else if letter == letter_t then result_err (time_in content)
+    else if letter == letter_i then result_err (count_in content)
+    else if letter == letter_u then result_err (text_in content)
+    else if letter == capital_t then result_err (tags_in content)
+    else if letter == letter_x then result_err (degrees_in 180 content)
+    else if letter == letter_y then result_err (degrees_in 90 content)
+    else if letter == capital_n then result_err (refs_in content)
     else result_err (members_in content)
 
 -- what is wrong with a piece after these letters: its letter isn't allowed, came before, or has a bad content

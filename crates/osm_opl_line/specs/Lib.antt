@@ -7,5 +7,4 @@ pub mod Line
 pub mod LineParts
 pub mod Reading
 pub mod Seen
-pub mod Writable
 pub mod Writing

@@ -3,7 +3,8 @@
 use Rattle.std.specs.Prelude.{ℕ, ℤ, List, [], ◌∷◌, length, Bool, true, false, ◌&&◌, ◌||◌, ◌==◌, not, nat_lt, if◌then◌else◌, Option, Some, None, slice_index}
 use Rattle.std.specs.List.{list_any}
 use Rattle.std.specs.Str.{is_utf8}
-use Rattle.osm_entity.specs.Entities.{weight_of}
+use Rattle.osm_entity.specs.Ascii.{tab, number_sign}
+use Rattle.osm_entity.specs.Entities.{greatest_weight, weight_of}
 use Rattle.osm_entity.specs.Items.{ItemValue}
 use Rattle.osm_entity.specs.declared.kind.Flow.{Flow}
 use Rattle.osm_entity.specs.declared.kind.Flow.TheVariants.{Entities, Changes}
@@ -22,12 +23,9 @@ pub data LineValue : Type 0 where
   Good : (item : ItemValue) → LineValue
   Bad : (cause : Cause) → LineValue
 
--- the most bytes of a line, and the most that an entity weighs
+-- the most bytes of a line
 abbrev pub longest_line : ℕ
 longest_line = 16777216
-
-abbrev pub heaviest : ℕ
-heaviest = 2097152
 
 -- a file of this flow has changes
 abbrev pub is_changes : Flow → Bool
@@ -53,7 +51,7 @@ abbrev pub judged : Fields → LineValue
 judged f =
     if lacks_place f.kind f then Bad NoPlace
     else if not (is_changes f.flow) && is_deleted f then Bad Deleted
-    else if nat_lt heaviest (weight_of (entity_of f)) then Bad TooHeavy
+    else if nat_lt greatest_weight (weight_of (entity_of f)) then Bad TooHeavy
     else Good (item_of f)
 
 -- the first fault of the fields, else what they say together
@@ -74,11 +72,11 @@ said_of flow parts = Skipped
 
 -- a control byte is below 32 and no tab
 abbrev pub is_control : ℕ → Bool
-is_control b = nat_lt b 32 && not (b == 9)
+is_control b = nat_lt b 32 && not (b == tab)
 
 -- a line is skipped where it begins with # or has nothing but spaces and tabs
 abbrev pub is_skipped : List ℕ → Bool
-is_skipped line = (slice_index line 0 == 35) || (length (pieces line) == 0)
+is_skipped line = (slice_index line 0 == number_sign) || (length (pieces line) == 0)
 
 -- what a line of a file of this flow says
 unfoldable pub opl_line : Flow → List ℕ → LineValue

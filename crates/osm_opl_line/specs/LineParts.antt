@@ -1,7 +1,9 @@
--- The three parts of a written line, as the code appends them.
+-- The three parts of a written line.
+-- Here each is one formula; the code appends field after field.
 use Rattle.std.specs.Prelude.{ℕ, List, ◌∷◌, ◌++◌, map, codes, decimal}
 use Rattle.std.specs.Fmt.{signed_decimal}
 use Rattle.std.specs.List.{join_with_byte}
+use Rattle.osm_entity.specs.Ascii.{comma}
 use Rattle.osm_entity.specs.Entities.{EntityValue}
 use Rattle.osm_entity.specs.Items.{ItemValue, kind_of}
 use Rattle.osm_text.specs.Escapes.{escaped}
@@ -21,4 +23,4 @@ author_text e = codes " t" ++ time_field e.time ++ codes " i" ++ decimal e.uid +
 
 -- the tags, and the fields that only a kind has
 abbrev pub lists_text : EntityValue → List ℕ
-lists_text e = codes " T" ++ join_with_byte 44 (map tag_text e.tags) ++ body_text e.body
+lists_text e = codes " T" ++ join_with_byte comma (map tag_text e.tags) ++ body_text e.body

@@ -1,8 +1,8 @@
 -- What an OPL file says: its items up to its first bad line, and how the reading ends.
 -- Here the whole file is cut at once at its newlines; the code goes from line to line.
-use Rattle.std.specs.Prelude.{ℕ, ◌+◌, List, [], ◌∷◌, ◌++◌, length, Bool, true, false, ◌&&◌, ◌||◌, ◌==◌, nat_lt, if◌then◌else◌}
+use Rattle.std.specs.Prelude.{ℕ, ◌+◌, List, [], ◌∷◌, length, Bool, ◌&&◌, ◌||◌, ◌==◌, nat_lt, if◌then◌else◌}
 use Rattle.std.specs.List.{slice_split}
-use Rattle.osm_entity.specs.Items.{ItemValue}
+use Rattle.osm_entity.specs.Ascii.{newline}
 use Rattle.osm_entity.specs.Readings.{Reading, Bad as BadAt, ending_of}
 use Rattle.osm_entity.specs.declared.kind.Flow.{Flow}
 use Rattle.osm_entity.specs.declared.verdict.Spot.TheVariants.{Line}
@@ -32,4 +32,4 @@ read_lines flow clean number (line ∷ lines) =
 
 -- what bytes say as a file of this flow; `clean` says that they are all of it
 unfoldable pub opl_reading : Flow → List ℕ → Bool → Reading
-opl_reading flow bytes clean = read_lines flow clean 1 (lines_of clean (slice_split (λ b. b == 10) bytes))
+opl_reading flow bytes clean = read_lines flow clean 1 (lines_of clean (slice_split (λ b. b == newline) bytes))

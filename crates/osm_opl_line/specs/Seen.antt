@@ -1,4 +1,5 @@
 -- How contracts see the answer of the code that reads a line.
+-- Here an answer is what its line says; the code has the item with its texts and lists.
 use Rattle.osm_opl_line.specs.Line.{LineValue, Skipped, Good, Bad}
 use Rattle.osm_opl_line.specs.declared.reading.LineRead.{LineRead}
 use Rattle.osm_opl_line.specs.declared.reading.LineRead.TheVariants.{Skipped as ReadSkipped, Item as ReadItem, Bad as ReadBad}

@@ -1,8 +1,9 @@
 -- The bytes of an OPL file: one line for each item, all of one form.
 -- Here a line is one formula of its item; the code appends field after field.
-use Rattle.std.specs.Prelude.{ℕ, ℤ, zero, suc, List, [], ◌∷◌, ◌++◌, ◌≡◌, map, Some, None, codes, decimal}
+use Rattle.std.specs.Prelude.{ℕ, ℤ, zero, suc, List, [], ◌∷◌, ◌++◌, map, Some, None, codes, decimal}
 use Rattle.std.specs.Fmt.{signed_decimal}
 use Rattle.std.specs.List.{flat_map, join_with_byte}
+use Rattle.osm_entity.specs.Ascii.{comma, equals_sign, at_sign, letter_n, letter_w, letter_r}
 use Rattle.osm_entity.specs.Items.{ItemValue, kind_of}
 use Rattle.osm_entity.specs.Streams.{Stream}
 use Rattle.osm_entity.specs.declared.item.Act.{Act}
@@ -20,9 +21,9 @@ use Rattle.osm_text.specs.Times.{time_text}
 
 -- the letter of a kind
 abbrev pub kind_letter : Kind → ℕ
-kind_letter OfNode = 110
-kind_letter OfWay = 119
-kind_letter OfRelation = 114
+kind_letter OfNode = letter_n
+kind_letter OfWay = letter_w
+kind_letter OfRelation = letter_r
 
 -- D for a delete, else V
 abbrev pub act_text : Act → List ℕ
@@ -36,15 +37,15 @@ time_field (suc seconds) = time_text (suc seconds)
 
 -- a key and its value
 abbrev pub tag_text : Tag → List ℕ
-tag_text t = escaped t.key ++ 61 ∷ escaped t.value
+tag_text t = escaped t.key ++ equals_sign ∷ escaped t.value
 
 -- a ref
 abbrev pub ref_text : ℤ → List ℕ
-ref_text id = 110 ∷ signed_decimal id
+ref_text id = letter_n ∷ signed_decimal id
 
 -- a member's kind, id and role
 abbrev pub member_text : Member → List ℕ
-member_text m = kind_letter m.kind ∷ signed_decimal m.id ++ 64 ∷ escaped m.role
+member_text m = kind_letter m.kind ∷ signed_decimal m.id ++ at_sign ∷ escaped m.role
 
 -- x and y with the degrees of a place
 abbrev pub place_text : Place → List ℕ
@@ -54,8 +55,8 @@ place_text p = codes " x" ++ nano_text p.lon ++ codes " y" ++ nano_text p.lat
 abbrev pub body_text : Body → List ℕ
 body_text (Node (Some p)) = place_text p
 body_text (Node None) = codes " x y"
-body_text (Way refs) = codes " N" ++ join_with_byte 44 (map ref_text refs)
-body_text (Relation members) = codes " M" ++ join_with_byte 44 (map member_text members)
+body_text (Way refs) = codes " N" ++ join_with_byte comma (map ref_text refs)
+body_text (Relation members) = codes " M" ++ join_with_byte comma (map member_text members)
 
 -- the line of an item: its kind and id, its metadata, its tags, the fields of its kind, and a newline
 abbrev pub line_text : ItemValue → List ℕ
@@ -67,15 +68,10 @@ line_text item =
     ++ codes " t" ++ time_field item.entity.time
     ++ codes " i" ++ decimal item.entity.uid
     ++ codes " u" ++ escaped item.entity.user
-    ++ codes " T" ++ join_with_byte 44 (map tag_text item.entity.tags)
+    ++ codes " T" ++ join_with_byte comma (map tag_text item.entity.tags)
     ++ body_text item.entity.body
     ++ codes "\n"
 
 -- the file of a stream: the lines of its items, whatever its end
 abbrev pub opl_text : Stream → List ℕ
 opl_text s = flat_map line_text s.items
-
--- a list of bytes begins with another
-pub record BeginsWith (front bytes : List ℕ) : Type 0 where
-  pub rest : List ℕ
-  pub joined : bytes ≡ front ++ rest

@@ -1,8 +1,9 @@
 //! Reads the contents of fields: numbers by their values, and texts by what they weigh. Nothing is
 //! copied.
 ghost use Rattle.std.specs.Prelude.{◌≡◌, ◌≤◌, ◌*◌, IfOk, length, nat_abs, nat_le};
+ghost use Rattle.osm_entity.specs.Counts.{counted, small_count};
 ghost use Rattle.osm_entity.specs.Entities.{degree};
-ghost use Rattle.osm_opl_line.specs.Contents.{changeset_in, clipped, count_in, degrees_in, deleted_in, small, text_in, time_in};
+ghost use Rattle.osm_opl_line.specs.Contents.{changeset_in, count_in, degrees_in, deleted_in, text_in, time_in};
 ghost use Rattle.osm_opl_line.specs.Cut.{weighed};
 ghost use Rattle.osm_opl_line.specs.Line.{longest_line};
 
@@ -14,14 +15,14 @@ const DEGREE: u64 = 1_000_000_000;
 
 /// The number, and 0 in the place of a negative one.
 fn clip(number: i64) -> u64
-    ensures { result ≡ clipped number }
+    ensures { result ≡ counted number }
 {
     if number < 0 { 0 } else { number as u64 }
 }
 
 /// The number, where it is at most 2^31 - 1.
 fn small_number(number: u64) -> Option<u32>
-    ensures { result ≡ small number }
+    ensures { result ≡ small_count number }
 {
     if number < 1 << 31 {
         Some(number as u32)
@@ -81,7 +82,7 @@ fn is_within(nanodegrees: i64, most: u64) -> bool
     nanodegrees.unsigned_abs() <= most * DEGREE
 }
 
-/// Nanodegrees of at most so many degrees in size; none for an empty content.
+/// Nanodegrees, of at most this number of degrees in size; none for an empty content.
 pub(crate) fn read_degrees(content: &[u8], most: u64) -> Result<Option<i64>, Cause>
     requires { most ≤ 180 }
     ensures { result ≡ degrees_in most content.now }
@@ -100,7 +101,6 @@ pub(crate) fn read_degrees(content: &[u8], most: u64) -> Result<Option<i64>, Cau
 pub(crate) fn weigh_text(content: &[u8]) -> Result<u64, Cause>
     requires { length content.now ≤ longest_line }
     ensures value { result ≡ weighed length (text_in content.now) }
-    ensures small { IfOk result (λ n. n ≤ 34 * longest_line) }
     ensures shorter { IfOk result (λ n. n ≤ length content.now) }
 {
     match unescaped_length(content) {

@@ -3,6 +3,7 @@ ghost use Rattle.std.specs.Prelude.{◌≡◌, ◌≤◌, ◌<◌, ◌↔◌, �
 ghost use Rattle.std.specs.List.{list_any};
 ghost use Rattle.std.specs.Result.{result_err};
 ghost use Rattle.std.specs.Str.{is_utf8};
+ghost use Rattle.osm_entity.specs.Ascii.{number_sign};
 ghost use Rattle.osm_entity.specs.declared.kind.Flow.{Flow};
 ghost use Rattle.osm_entity.specs.declared.verdict.Cause.{Cause};
 ghost use Rattle.osm_opl_line.specs.Draft.{IsRead, answer_of, fields_drafted};
@@ -62,7 +63,7 @@ fn cut(line: &[u8], flow: Flow) -> Result<Option<Line<'_>>, Cause>
 
 // Such a line is a comment.
 fn begins_with_hash(line: &[u8]) -> bool
-    ensures { result ≡ (slice_index line.now 0 == 35) }
+    ensures { result ≡ (slice_index line.now 0 == number_sign) }
 {
     matches!(line, [b'#', ..])
 }

@@ -1,6 +1,8 @@
 //! The fields of a line that is being cut, and what was read from them so far.
 ghost use Rattle.std.specs.Prelude.{◌≡◌, ◌≤◌, ◌<◌, ℕ, None, Some, OnOk, IsUtf8, is_some, length, if◌then◌else◌};
 ghost use Rattle.std.specs.Result.{result_err};
+ghost use Rattle.osm_entity.specs.Ascii.{capital_m, capital_n, capital_t, letter_c, letter_d, letter_i, letter_t};
+ghost use Rattle.osm_entity.specs.Ascii.{letter_u, letter_v, letter_x, letter_y};
 ghost use Rattle.osm_entity.specs.declared.verdict.Cause.TheVariants.{TwiceField};
 ghost use Rattle.osm_opl_line.specs.Draft.{Fills, IsRead, draft_fault, refusal, slot_of};
 ghost use Rattle.osm_opl_line.specs.Line.{longest_line};
@@ -93,8 +95,8 @@ impl<'a> Draft<'a> {
     }
 
     fn take_version(&mut self, content: &'a [u8]) -> Result<(), Cause>
-        ensures refused { result_err result ≡ refusal 118 content.now self.old }
-        ensures ok { OnOk result (Fills 118 content.now self.old self.new) }
+        ensures refused { result_err result ≡ refusal letter_v content.now self.old }
+        ensures ok { OnOk result (Fills letter_v content.now self.old self.new) }
     {
         check_free(self.v)?;
         self.numbers.version = read_count(content)?;
@@ -103,8 +105,8 @@ impl<'a> Draft<'a> {
     }
 
     fn take_deleted(&mut self, content: &'a [u8]) -> Result<(), Cause>
-        ensures refused { result_err result ≡ refusal 100 content.now self.old }
-        ensures ok { OnOk result (Fills 100 content.now self.old self.new) }
+        ensures refused { result_err result ≡ refusal letter_d content.now self.old }
+        ensures ok { OnOk result (Fills letter_d content.now self.old self.new) }
     {
         check_free(self.d)?;
         self.numbers.deleted = read_deleted(content)?;
@@ -113,8 +115,8 @@ impl<'a> Draft<'a> {
     }
 
     fn take_changeset(&mut self, content: &'a [u8]) -> Result<(), Cause>
-        ensures refused { result_err result ≡ refusal 99 content.now self.old }
-        ensures ok { OnOk result (Fills 99 content.now self.old self.new) }
+        ensures refused { result_err result ≡ refusal letter_c content.now self.old }
+        ensures ok { OnOk result (Fills letter_c content.now self.old self.new) }
     {
         check_free(self.c)?;
         self.numbers.changeset = read_changeset(content)?;
@@ -123,8 +125,8 @@ impl<'a> Draft<'a> {
     }
 
     fn take_time(&mut self, content: &'a [u8]) -> Result<(), Cause>
-        ensures refused { result_err result ≡ refusal 116 content.now self.old }
-        ensures ok { OnOk result (Fills 116 content.now self.old self.new) }
+        ensures refused { result_err result ≡ refusal letter_t content.now self.old }
+        ensures ok { OnOk result (Fills letter_t content.now self.old self.new) }
     {
         check_free(self.t)?;
         self.numbers.time = read_seconds(content)?;
@@ -133,8 +135,8 @@ impl<'a> Draft<'a> {
     }
 
     fn take_uid(&mut self, content: &'a [u8]) -> Result<(), Cause>
-        ensures refused { result_err result ≡ refusal 105 content.now self.old }
-        ensures ok { OnOk result (Fills 105 content.now self.old self.new) }
+        ensures refused { result_err result ≡ refusal letter_i content.now self.old }
+        ensures ok { OnOk result (Fills letter_i content.now self.old self.new) }
     {
         check_free(self.i)?;
         self.numbers.uid = read_count(content)?;
@@ -145,8 +147,8 @@ impl<'a> Draft<'a> {
     fn take_user(&mut self, content: &'a [u8]) -> Result<(), Cause>
         requires short { length content.now ≤ longest_line }
         requires utf8 { IsUtf8 content.now }
-        ensures refused { result_err result ≡ refusal 117 content.now self.old }
-        ensures ok { OnOk result (Fills 117 content.now self.old self.new) }
+        ensures refused { result_err result ≡ refusal letter_u content.now self.old }
+        ensures ok { OnOk result (Fills letter_u content.now self.old self.new) }
     {
         check_free(self.u)?;
         self.user_weight = weigh_text(content)?;
@@ -157,8 +159,8 @@ impl<'a> Draft<'a> {
     fn take_tags(&mut self, content: &'a [u8]) -> Result<(), Cause>
         requires short { length content.now ≤ longest_line }
         requires utf8 { IsUtf8 content.now }
-        ensures refused { result_err result ≡ refusal 84 content.now self.old }
-        ensures ok { OnOk result (Fills 84 content.now self.old self.new) }
+        ensures refused { result_err result ≡ refusal capital_t content.now self.old }
+        ensures ok { OnOk result (Fills capital_t content.now self.old self.new) }
     {
         check_free(self.tags)?;
         self.tags_weight = weigh_tags(content)?;
@@ -167,8 +169,8 @@ impl<'a> Draft<'a> {
     }
 
     fn take_lon(&mut self, content: &'a [u8]) -> Result<(), Cause>
-        ensures refused { result_err result ≡ refusal 120 content.now self.old }
-        ensures ok { OnOk result (Fills 120 content.now self.old self.new) }
+        ensures refused { result_err result ≡ refusal letter_x content.now self.old }
+        ensures ok { OnOk result (Fills letter_x content.now self.old self.new) }
     {
         check_free(self.x)?;
         self.numbers.lon = read_degrees(content, 180)?;
@@ -177,8 +179,8 @@ impl<'a> Draft<'a> {
     }
 
     fn take_lat(&mut self, content: &'a [u8]) -> Result<(), Cause>
-        ensures refused { result_err result ≡ refusal 121 content.now self.old }
-        ensures ok { OnOk result (Fills 121 content.now self.old self.new) }
+        ensures refused { result_err result ≡ refusal letter_y content.now self.old }
+        ensures ok { OnOk result (Fills letter_y content.now self.old self.new) }
     {
         check_free(self.y)?;
         self.numbers.lat = read_degrees(content, 90)?;
@@ -189,8 +191,8 @@ impl<'a> Draft<'a> {
     fn take_refs(&mut self, content: &'a [u8]) -> Result<(), Cause>
         requires short { length content.now ≤ longest_line }
         requires utf8 { IsUtf8 content.now }
-        ensures refused { result_err result ≡ refusal 78 content.now self.old }
-        ensures ok { OnOk result (Fills 78 content.now self.old self.new) }
+        ensures refused { result_err result ≡ refusal capital_n content.now self.old }
+        ensures ok { OnOk result (Fills capital_n content.now self.old self.new) }
     {
         check_free(self.refs)?;
         self.refs_weight = weigh_refs(content)?;
@@ -201,8 +203,8 @@ impl<'a> Draft<'a> {
     fn take_members(&mut self, content: &'a [u8]) -> Result<(), Cause>
         requires short { length content.now ≤ longest_line }
         requires utf8 { IsUtf8 content.now }
-        ensures refused { result_err result ≡ refusal 77 content.now self.old }
-        ensures ok { OnOk result (Fills 77 content.now self.old self.new) }
+        ensures refused { result_err result ≡ refusal capital_m content.now self.old }
+        ensures ok { OnOk result (Fills capital_m content.now self.old self.new) }
     {
         check_free(self.members)?;
         self.members_weight = weigh_members(content)?;

@@ -8,10 +8,7 @@ ghost use Rattle.osm_opl_line.specs.Line.{Bad, Good, judged, lacks_degrees, lack
 
 use crate::draft::Draft;
 use crate::line::Line;
-use osm_entity::{Cause, Flow, Kind};
-
-/// The most that an entity weighs.
-const HEAVIEST: u64 = 2_097_152;
+use osm_entity::{Cause, Flow, GREATEST_WEIGHT, Kind};
 
 /// The line of an entity with these fields, or what is wrong with them together.
 pub(crate) fn judge<'a>(
@@ -61,7 +58,7 @@ fn common_fault(draft: &Draft<'_>, flow: Flow, kind: Kind) -> Option<Cause>
         Some(Cause::NoPlace)
     } else if flow == Flow::Entities && draft.numbers.deleted {
         Some(Cause::Deleted)
-    } else if weight(draft, kind) > HEAVIEST {
+    } else if weight(draft, kind) > GREATEST_WEIGHT {
         Some(Cause::TooHeavy)
     } else {
         None

@@ -12,6 +12,7 @@ mod laws;
 mod line;
 mod making;
 mod parting;
+mod parts;
 mod pieces;
 mod reading;
 #[cfg(test)]
@@ -20,7 +21,7 @@ mod weighing;
 mod writing;
 
 pub use cutting::cut_line;
-pub use laws::files_read_back;
+pub use laws::{bad_lines_settle, files_read_back, long_lines_are_bad, prefixes_come_before};
 pub use line::Line;
 pub use reading::{LineRead, read_line};
 pub use writing::write_line;

@@ -1,20 +1,20 @@
 //! Makes the item that the fields of a line say.
 //!
-//! No field has a fault, which was looked at when the line was cut, so only memory can be wanted.
-ghost use Rattle.std.specs.Prelude.{◌≡◌, ◌==◌, [], IfOk, IsOk, IsUtf8, List, Ok, Result, length, ℕ};
+//! No field has a fault, which was looked at when the line was cut, so it fails only where it is
+//! out of memory.
+ghost use Rattle.std.specs.Prelude.{◌≡◌, ◌==◌, [], IfOk, IsOk, IsUtf8, Ok, length};
 ghost use Rattle.std.specs.List.{slice_split};
 ghost use Rattle.std.specs.Option.{option_map};
-ghost use Rattle.osm_entity.specs.declared.verdict.Cause.{Cause};
-ghost use Rattle.osm_opl_line.specs.Contents.{all_in, member_in, parts_of, ref_in, tag_in, text_in};
+ghost use Rattle.osm_entity.specs.Ascii.{comma};
+ghost use Rattle.osm_opl_line.specs.Contents.{all_in, parts_of, text_in};
 ghost use Rattle.osm_opl_line.specs.Cut.{IsFine};
 ghost use Rattle.osm_opl_line.specs.Item.{act_of, body_of, item_of, place_of, value_of};
 
 use crate::line::Line;
-use crate::parting::{cut_member, cut_ref, cut_tag};
-use osm_entity::{
-    Act, Body, Entity, Flow, Item, Kind, Member, NoMemory, Place, Sequence, Tag, Text,
-};
-use osm_text::{EscapeError, first_part, read_whole, unescape};
+use crate::parts::{Part, read_text};
+use memchr::memchr_iter;
+use osm_entity::{Act, Body, Entity, Flow, Item, Kind, NoMemory, Place, Sequence, Text};
+use osm_text::first_part;
 use std::alloc::Global;
 
 impl<'a> Line<'a> {
@@ -84,75 +84,6 @@ fn field_text(alloc: Global, field: Option<&[u8]>) -> Result<Text, NoMemory>
     }
 }
 
-fn read_text(alloc: Global, content: &[u8]) -> Result<Text, NoMemory>
-    requires utf8 { IsUtf8 content.now }
-    requires fine { IsOk (text_in content.now) }
-    ensures { IfOk result (λ text. text_in content.now ≡ Ok text) }
-{
-    if content.is_empty() {
-        return Ok(Text::new(alloc));
-    }
-    match unescape(alloc, content) {
-        Ok(text) => Ok(text),
-        Err(EscapeError::Memory) => Err(NoMemory),
-        Err(EscapeError::BadEscape) => unreachable!(),
-    }
-}
-
-/// A value of a list: a tag, a ref or a member, each said by a part between commas.
-trait Part: Drop {
-    /// The value that a part says, or the cause why it is bad.
-    ghost says: { List ℕ → Result Self Cause };
-
-    /// The value that a part says.
-    fn read(alloc: Global, part: &[u8]) -> Result<Self, NoMemory>
-        requires utf8 { IsUtf8 part.now }
-        requires fine { IsOk (says part.now) }
-        ensures { IfOk result (λ value. says part.now ≡ Ok value) };
-}
-
-impl Part for Tag {
-    ghost says = { tag_in };
-
-    fn read(alloc: Global, part: &[u8]) -> Result<Self, NoMemory> {
-        let Some((key, value)) = cut_tag(part) else {
-            unreachable!();
-        };
-        let key = read_text(alloc, key)?;
-        let value = read_text(alloc, value)?;
-        Ok(Tag { key, value })
-    }
-}
-
-impl Part for i64 {
-    ghost says = { ref_in };
-
-    fn read(_: Global, part: &[u8]) -> Result<Self, NoMemory> {
-        let Some(id) = cut_ref(part) else {
-            unreachable!();
-        };
-        let Ok(id) = read_whole(id) else {
-            unreachable!();
-        };
-        Ok(id)
-    }
-}
-
-impl Part for Member {
-    ghost says = { member_in };
-
-    fn read(alloc: Global, part: &[u8]) -> Result<Self, NoMemory> {
-        let Some((kind, id, role)) = cut_member(part) else {
-            unreachable!();
-        };
-        let Ok(id) = read_whole(id) else {
-            unreachable!();
-        };
-        let role = read_text(alloc, role)?;
-        Ok(Member { kind, id, role })
-    }
-}
-
 // The list of a field; the empty list where it is absent.
 fn field_list<T: Part>(alloc: Global, field: Option<&[u8]>) -> Result<Sequence<T>, NoMemory>
     requires { IsFine
@@ -186,7 +117,7 @@ fn read_list<T: Part>(alloc: Global, content: &[u8]) -> Result<Sequence<T>, NoMe
 
 // How many parts stand between commas.
 fn count_parts(content: &[u8]) -> usize
-    ensures { result ≡ length (slice_split (λ b. b == 44) content.now) }
+    ensures { result ≡ length (slice_split (λ b. b == comma) content.now) }
 {
-    content.iter().filter(|b| **b == b',').count() + 1
+    memchr_iter(b',', content).count() + 1
 }

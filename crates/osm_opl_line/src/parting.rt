@@ -5,6 +5,7 @@ ghost use Rattle.std.specs.Option.{ok_or};
 ghost use Rattle.osm_entity.specs.declared.verdict.Cause.TheVariants.{BadField, BadNumber};
 ghost use Rattle.osm_text.specs.Numbers.{whole};
 ghost use Rattle.osm_opl_line.specs.Contents.{is_at_sign, is_equals, kind_by, member_in, member_of, ref_in, tag_in, tag_of, text_in};
+ghost use Rattle.osm_opl_line.specs.Writing.{kind_letter};
 
 use osm_entity::Kind;
 
@@ -17,6 +18,17 @@ pub(crate) fn kind_of(letter: u8) -> Option<Kind>
         b'w' => Some(Kind::Way),
         b'r' => Some(Kind::Relation),
         _ => None,
+    }
+}
+
+/// The letter of a kind.
+pub(crate) fn letter_of(kind: Kind) -> u8
+    ensures { result ≡ kind_letter kind }
+{
+    match kind {
+        Kind::Node => b'n',
+        Kind::Way => b'w',
+        Kind::Relation => b'r',
     }
 }
 

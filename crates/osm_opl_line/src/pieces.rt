@@ -3,6 +3,8 @@ ghost use Rattle.std.specs.Prelude.{◌≡◌, ◌≤◌, ◌<◌, ◌+◌, ◌�
 ghost use Rattle.std.specs.List.{position};
 ghost use Rattle.osm_opl_line.specs.Fields.{is_blank, pieces};
 
+use memchr::memchr2;
+
 /// The letter that begins the first piece, its content, and the bytes after it; `None` where there
 /// is no piece.
 pub(crate) fn next_piece(bytes: &[u8]) -> Option<(u8, &[u8], &[u8])>
@@ -42,17 +44,17 @@ fn cut_at_blank(bytes: &[u8]) -> (&[u8], &[u8])
     ensures shorter { length result.0.now + length result.1.now ≤ length bytes.now }
     ensures utf8 { IsUtf8 bytes.now → IsUtf8 result.0.now × IsUtf8 result.1.now }
 {
-    match blank_place(bytes) {
+    match position_of_blank(bytes) {
         Some(at) => (&bytes[..at], &bytes[at + 1..]),
         None => (bytes, &[]),
     }
 }
 
-// The place of the first space or tab.
-fn blank_place(bytes: &[u8]) -> Option<usize>
+// The position of the first space or tab.
+fn position_of_blank(bytes: &[u8]) -> Option<usize>
     ensures { result ≡ position is_blank bytes.now }
 {
-    bytes.iter().position(|b| is_space(*b))
+    memchr2(b' ', b'\t', bytes)
 }
 
 // A space or a tab.

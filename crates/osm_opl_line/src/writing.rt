@@ -2,16 +2,18 @@
 //!
 //! Each field is written: a number that isn't known as 0, a text or a list without anything as its
 //! letter alone.
-ghost use Rattle.std.specs.Prelude.{◌≡◌, ◌++◌, ◌∷◌, ℕ, List, OnOk, OnErr, IsTrue, codes, map};
+ghost use Rattle.std.specs.Prelude.{◌≡◌, ◌++◌, ◌∷◌, OnOk, OnErr, IsTrue, codes, map};
 ghost use Rattle.std.specs.Fmt.{signed_decimal};
 ghost use Rattle.std.specs.List.{flat_map, join_with_byte};
+ghost use Rattle.osm_entity.specs.Ascii.{comma};
 ghost use Rattle.osm_entity.specs.Entities.{place_fits, body_fits};
+ghost use Rattle.osm_entity.specs.Prefixes.{IsPrefix};
 ghost use Rattle.osm_opl_line.specs.LineParts.{author_text, head_text, lists_text};
-ghost use Rattle.osm_opl_line.specs.Writing.{BeginsWith, act_text, body_text, kind_letter};
-ghost use Rattle.osm_opl_line.specs.Writing.{line_text, member_text, place_text, ref_text};
-ghost use Rattle.osm_opl_line.specs.Writing.{tag_text, time_field};
+ghost use Rattle.osm_opl_line.specs.Writing.{act_text, body_text};
+ghost use Rattle.osm_opl_line.specs.Writing.{line_text, place_text, time_field};
 
-use osm_entity::{Act, Body, Bytes, Entity, Item, Kind, Member, NoMemory, Place, Tag};
+use crate::parts::{Part, append_id};
+use osm_entity::{Act, Body, Bytes, Entity, Item, NoMemory, Place};
 use osm_text::{escape, write_nano, write_time, write_whole};
 
 /// Appends the line of an item, with its newline. At `Err` nothing is appended.
@@ -30,7 +32,7 @@ pub fn write_line(out: &mut Bytes, item: &Item) -> Result<(), NoMemory>
 // Appends field after field. At `Err` some of them are appended.
 fn append_line(out: &mut Bytes, item: &Item) -> Result<(), NoMemory>
     ensures ok { OnOk result (out.new ≡ out.old ++ line_text item.now) }
-    ensures err { OnErr result (BeginsWith out.old out.new) }
+    ensures err { OnErr result (IsPrefix out.old out.new) }
 {
     append_head(out, item)?;
     append_author(out, &item.entity)?;
@@ -41,7 +43,7 @@ fn append_line(out: &mut Bytes, item: &Item) -> Result<(), NoMemory>
 // Appends the kind and the id, the version, what is done, and the changeset.
 fn append_head(out: &mut Bytes, item: &Item) -> Result<(), NoMemory>
     ensures ok { OnOk result (out.new ≡ out.old ++ head_text item.now) }
-    ensures err { OnErr result (BeginsWith out.old out.new) }
+    ensures err { OnErr result (IsPrefix out.old out.new) }
 {
     let entity = &item.entity;
     append_id(out, item.key().kind, entity.id)?;
@@ -52,7 +54,7 @@ fn append_head(out: &mut Bytes, item: &Item) -> Result<(), NoMemory>
 // Appends the time, the uid and the user.
 fn append_author(out: &mut Bytes, entity: &Entity) -> Result<(), NoMemory>
     ensures ok { OnOk result (out.new ≡ out.old ++ author_text entity.now) }
-    ensures err { OnErr result (BeginsWith out.old out.new) }
+    ensures err { OnErr result (IsPrefix out.old out.new) }
 {
     append_time(out, entity.time)?;
     append_number(out, b" i", i64::from(entity.uid))?;
@@ -63,7 +65,7 @@ fn append_author(out: &mut Bytes, entity: &Entity) -> Result<(), NoMemory>
 // Appends the tags, and the fields that only a kind has.
 fn append_lists(out: &mut Bytes, entity: &Entity) -> Result<(), NoMemory>
     ensures ok { OnOk result (out.new ≡ out.old ++ lists_text entity.now) }
-    ensures err { OnErr result (BeginsWith out.old out.new) }
+    ensures err { OnErr result (IsPrefix out.old out.new) }
 {
     append_named(out, b" T", entity.tags.as_slice())?;
     append_body(out, &entity.body)
@@ -73,7 +75,7 @@ fn append_lists(out: &mut Bytes, entity: &Entity) -> Result<(), NoMemory>
 fn append_body(out: &mut Bytes, body: &Body) -> Result<(), NoMemory>
     requires { IsTrue (body_fits body.now) }
     ensures ok { OnOk result (out.new ≡ out.old ++ body_text body.now) }
-    ensures err { OnErr result (BeginsWith out.old out.new) }
+    ensures err { OnErr result (IsPrefix out.old out.new) }
 {
     match body {
         Body::Node(Some(place)) => append_place(out, place),
@@ -87,7 +89,7 @@ fn append_body(out: &mut Bytes, body: &Body) -> Result<(), NoMemory>
 fn append_place(out: &mut Bytes, place: &Place) -> Result<(), NoMemory>
     requires { IsTrue (place_fits place.now) }
     ensures ok { OnOk result (out.new ≡ out.old ++ place_text place.now) }
-    ensures err { OnErr result (BeginsWith out.old out.new) }
+    ensures err { OnErr result (IsPrefix out.old out.new) }
 {
     out.append(b" x")?;
     write_nano(out, place.lon)?;
@@ -98,7 +100,7 @@ fn append_place(out: &mut Bytes, place: &Place) -> Result<(), NoMemory>
 // Appends `t` and a time.
 fn append_time(out: &mut Bytes, time: u32) -> Result<(), NoMemory>
     ensures ok { OnOk result (out.new ≡ out.old ++ codes " t" ++ time_field time) }
-    ensures err { OnErr result (BeginsWith out.old out.new) }
+    ensures err { OnErr result (IsPrefix out.old out.new) }
 {
     out.append(b" t")?;
     if time == 0 {
@@ -110,29 +112,10 @@ fn append_time(out: &mut Bytes, time: u32) -> Result<(), NoMemory>
 // Appends a number and what stands before it.
 fn append_number(out: &mut Bytes, before: &[u8], n: i64) -> Result<(), NoMemory>
     ensures ok { OnOk result (out.new ≡ out.old ++ before.now ++ signed_decimal n) }
-    ensures err { OnErr result (BeginsWith out.old out.new) }
+    ensures err { OnErr result (IsPrefix out.old out.new) }
 {
     out.append(before)?;
     write_whole(out, n)
-}
-
-// Appends a kind and an id.
-fn append_id(out: &mut Bytes, kind: Kind, id: i64) -> Result<(), NoMemory>
-    ensures ok { OnOk result (out.new ≡ out.old ++ kind_letter kind ∷ signed_decimal id) }
-    ensures err { OnErr result (BeginsWith out.old out.new) }
-{
-    out.push(letter_of(kind))?;
-    write_whole(out, id)
-}
-
-fn letter_of(kind: Kind) -> u8
-    ensures { result ≡ kind_letter kind }
-{
-    match kind {
-        Kind::Node => b'n',
-        Kind::Way => b'w',
-        Kind::Relation => b'r',
-    }
 }
 
 // The field that says what is done, and the letter of the changeset's.
@@ -145,48 +128,11 @@ fn act_field(act: Act) -> &'static [u8]
     }
 }
 
-// An element of a list of a line: a tag, a ref or a member.
-trait Part {
-    ghost text: { Self → List ℕ };
-
-    fn append_to(&self, out: &mut Bytes) -> Result<(), NoMemory>
-        ensures ok { OnOk result (out.new ≡ out.old ++ text self.now) }
-        ensures err { OnErr result (BeginsWith out.old out.new) };
-}
-
-impl Part for Tag {
-    ghost text = { tag_text };
-
-    fn append_to(&self, out: &mut Bytes) -> Result<(), NoMemory> {
-        escape(out, &self.key)?;
-        out.push(b'=')?;
-        escape(out, &self.value)
-    }
-}
-
-impl Part for i64 {
-    ghost text = { ref_text };
-
-    fn append_to(&self, out: &mut Bytes) -> Result<(), NoMemory> {
-        append_id(out, Kind::Node, *self)
-    }
-}
-
-impl Part for Member {
-    ghost text = { member_text };
-
-    fn append_to(&self, out: &mut Bytes) -> Result<(), NoMemory> {
-        append_id(out, self.kind, self.id)?;
-        out.push(b'@')?;
-        escape(out, &self.role)
-    }
-}
-
 // Appends the name of a list and its elements.
 fn append_named<T: Part>(out: &mut Bytes, name: &[u8], parts: &[T]) -> Result<(), NoMemory>
     ensures ok { OnOk result
-        (out.new ≡ out.old ++ name.now ++ join_with_byte 44 (map T.text parts.now)) }
-    ensures err { OnErr result (BeginsWith out.old out.new) }
+        (out.new ≡ out.old ++ name.now ++ join_with_byte comma (map T.text parts.now)) }
+    ensures err { OnErr result (IsPrefix out.old out.new) }
 {
     out.append(name)?;
     append_list(out, parts)
@@ -194,8 +140,8 @@ fn append_named<T: Part>(out: &mut Bytes, name: &[u8], parts: &[T]) -> Result<()
 
 // Appends the elements of a list, with a comma between two.
 fn append_list<T: Part>(out: &mut Bytes, parts: &[T]) -> Result<(), NoMemory>
-    ensures ok { OnOk result (out.new ≡ out.old ++ join_with_byte 44 (map T.text parts.now)) }
-    ensures err { OnErr result (BeginsWith out.old out.new) }
+    ensures ok { OnOk result (out.new ≡ out.old ++ join_with_byte comma (map T.text parts.now)) }
+    ensures err { OnErr result (IsPrefix out.old out.new) }
 {
     match parts {
         [] => Ok(()),
@@ -208,8 +154,9 @@ fn append_list<T: Part>(out: &mut Bytes, parts: &[T]) -> Result<(), NoMemory>
 
 // Appends elements, each after a comma.
 fn append_more<T: Part>(out: &mut Bytes, parts: &[T]) -> Result<(), NoMemory>
-    ensures ok { OnOk result (out.new ≡ out.old ++ flat_map (λ part. 44 ∷ T.text part) parts.now) }
-    ensures err { OnErr result (BeginsWith out.old out.new) }
+    ensures ok { OnOk result
+        (out.new ≡ out.old ++ flat_map (λ part. comma ∷ T.text part) parts.now) }
+    ensures err { OnErr result (IsPrefix out.old out.new) }
 {
     for part in parts {
         out.push(b',')?;

@@ -11,7 +11,7 @@ month_length-le year month = grind arith
 year_length-ge : (year : ℕ) → 365 ≤ year_length year
 year_length-ge year = grind arith
 
--- so many years have at least 365 days each
+-- years have at least 365 days each
 pub days_of_years-ge : (k : ℕ) → 365 * k ≤ days_of_years k
 unfolding days_of_years
 days_of_years-ge zero = omega arith

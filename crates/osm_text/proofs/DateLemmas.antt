@@ -130,7 +130,7 @@ first-numbered = record {
   value = refl;
 }
 
--- the date after so many days has that number
+-- the date a number of days after 1970-01-01 has that number
 pub date_after-numbered : (n : ℕ) → IsNumbered (date_after n).year (date_after n).month (date_after n).day n
 unfolding date_after
 date_after-numbered zero = first-numbered

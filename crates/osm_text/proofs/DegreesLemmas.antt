@@ -81,13 +81,13 @@ digits_value_after-append n [] after = refl
 digits_value_after-append n (c ∷ cs) after = digits_value_after-append (n * 10 + digit_value c) cs after
 
 -- what was read of the digits before a point, and then of those after it, is the number of both
-pub read-joined : (before after : List ℕ) (front : ℕ) (read : Option ℕ) → 0 < length before + length after →
+pub read-joined : (before after : List ℕ) (leading : ℕ) (read : Option ℕ) → 0 < length before + length after →
     length before + length after ≤ 38 →
-    Some front ≡ (if list_all (λ c. is_digit c 10) before then Some (digits_value_after 10 0 before) else None) →
-    read ≡ (if list_all (λ c. is_digit c 10) after then Some (digits_value_after 10 front after) else None) →
+    Some leading ≡ (if list_all (λ c. is_digit c 10) before then Some (digits_value_after 10 0 before) else None) →
+    read ≡ (if list_all (λ c. is_digit c 10) after then Some (digits_value_after 10 leading after) else None) →
     read ≡ (if are_digits 38 (before ++ after) then Some (digits_value 10 (before ++ after)) else None)
-read-joined before after front read some within first second =
-    let kept = kept_some (list_all (λ c. is_digit c 10) before) (digits_value_after 10 0 before) front first in
+read-joined before after leading read some within first second =
+    let kept = kept_some (list_all (λ c. is_digit c 10) before) (digits_value_after 10 0 before) leading first in
     rw (
       length-append,
       lt-ltb 0 (length before + length after) some,

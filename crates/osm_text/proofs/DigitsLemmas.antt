@@ -54,13 +54,13 @@ short_digits most bytes within small =
     short_digits_at (list_all (λ c. is_digit c 10) bytes) most bytes within
     (λ digits. digits_value_short digits_model bytes 18 digits (omega arith))
 
--- one to so many digits are digits throughout
+-- one or more digits are digits throughout
 pub list_all-are_digits : (most : ℕ) (bytes : List ℕ) → are_digits most bytes ≡ true →
     list_all (λ c. is_digit c 10) bytes ≡ true
 list_all-are_digits most bytes digits =
     (and_parts (nat_lt 0 (length bytes) && nat_le (length bytes) most) (list_all (λ c. is_digit c 10) bytes) digits).1
 
--- a number of so many digits at most lies below that power of ten
+-- a number of at most `most` digits lies below that power of ten
 pub digits-size : (most : ℕ) (bytes : List ℕ) (read : Option ℕ) → length bytes ≤ most →
     read ≡ (if are_digits most bytes then Some (digits_value 10 bytes) else None) → IfSome read (λ n. n < 10 ^ most)
 digits-size most bytes None within is = tt

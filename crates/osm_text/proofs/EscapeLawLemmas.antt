@@ -87,7 +87,7 @@ unescaped-byte b rest text plain is =
     (parts-onto_first b text (slice_split (λ b. b == 37) rest) is)
 
 -- a reserved byte is ASCII
-reserved-ascii : (b : ℕ) → is_reserved b ≡ true → b < 128
+pub reserved-ascii : (b : ℕ) → is_reserved b ≡ true → b < 128
 reserved-ascii b reserved = grind (arith, nat_tests)
 
 -- a byte that is not reserved is no %

@@ -1,15 +1,17 @@
-mod CalendarLemmas
-mod DateLemmas
-mod DegreesLemmas
-mod DigitsLemmas
-mod EscapeLawLemmas
-mod EscapeLemmas
-mod FormLemmas
-mod FractionLemmas
-mod KeptLemmas
-mod LibraryLemmas
-mod NanoLemmas
-mod ReadBackLemmas
-mod TimeLemmas
-mod UnescapeLemmas
-mod UnescapedLengthLemmas
+pub mod CalendarLemmas
+pub mod DateLemmas
+pub mod DegreesLemmas
+pub mod DigitsLemmas
+pub mod EscapeLawLemmas
+pub mod EscapeLemmas
+pub mod FormLemmas
+pub mod FractionLemmas
+pub mod KeptLemmas
+pub mod LibraryLemmas
+pub mod NanoLemmas
+pub mod PositionLemmas
+pub mod ReadBackLemmas
+pub mod SplitLemmas
+pub mod TimeLemmas
+pub mod UnescapeLemmas
+pub mod UnescapedLengthLemmas

@@ -25,7 +25,7 @@ kept-year z n is low = rw is (back_small w16 (pos n) (omega arith))
 pub kept-day : (z : ℤ) (n : ℕ) → z ≡ pos n → n < 50000 → to_z w64 (of_z w64 z) ≡ pos n
 kept-day z n is low = rw is (back_small w64 (pos n) (omega arith))
 
--- the first so many months of a year have the same days
+-- the first months of a year have the same days
 months_of-days : (year k : ℕ) → months_of (pos year) k ≡ days_of_months year k
 unfolding months_of days_of_months
 months_of-days year zero = refl

@@ -17,7 +17,7 @@ use Rattle.osm_text.specs.Nano.{is_letter, is_point, limited, moved, nano, nano_
 use Rattle.osm_text.specs.Numbers.{are_digits, fraction_text, has_minus, nano_text, nine_digits, signed, trimmed, unsigned_part}
 use Rattle.osm_text.proofs.DegreesLemmas.{digits_value_after-append, pow-some}
 use Rattle.osm_text.proofs.DigitsLemmas.{digits_model, list_all-are_digits}
-use Rattle.osm_text.proofs.ReadBackLemmas.{digits-no_minus, trimmed-digits, trimmed-value}
+use Rattle.osm_text.proofs.ReadBackLemmas.{digit-no_minus, digits-no_minus, trimmed-digits, trimmed-value}
 
 -- degrees as digits before and after the point, in nanodegrees: the tenth part of a digit's worth for each place
 abbrev nanos : List ℕ → List ℕ → ℕ
@@ -31,9 +31,9 @@ digit-no_point c digit = grind (arith, nat_tests)
 digit-no_letter : (c : ℕ) → is_digit c 10 ≡ true → is_letter c ≡ false
 digit-no_letter c digit = grind (arith, nat_tests)
 
--- a digit is no sign
-digit-no_sign : (c : ℕ) → is_digit c 10 ≡ true → ((c == 45) ≡ false) × ((c == 43) ≡ false)
-digit-no_sign c digit = (grind (arith, nat_tests), grind (arith, nat_tests))
+-- a digit is no plus
+digit-no_plus : (c : ℕ) → is_digit c 10 ≡ true → (c == 43) ≡ false
+digit-no_plus c digit = grind (arith, nat_tests)
 
 -- the digits before a place have no byte that no digit is
 past-digits : (test : ℕ → Bool) (digits rest : List ℕ) → ((c : ℕ) → is_digit c 10 ≡ true → test c ≡ false) →
@@ -68,9 +68,9 @@ nine-places places few =
     ap (λ k. 10 ^ k) nine ∙ pow-add 10 (9 - places) places
 
 -- what is moved by all places is what is moved by some, and then by the rest
-spread : (front back some rest all : ℕ) → all ≡ rest * some →
-    (front * some + back) * all ≡ (front * all + back * rest) * some
-spread front back some rest all is = rw is (omega arith)
+spread : (leading back some rest all : ℕ) → all ≡ rest * some →
+    (leading * some + back) * all ≡ (leading * all + back * rest) * some
+spread leading back some rest all is = rw is (omega arith)
 
 -- the digits around a point, with the point unmoved, are the nanodegrees of the parts
 moved-none : (before after : List ℕ) → length after ≤ 9 → moved before after 0 0 ≡ nanos before after
@@ -89,13 +89,13 @@ moved-none before after few =
 joined-digits : (before after : List ℕ) → 0 < length before → length before + length after ≤ 38 →
     list_all (λ c. is_digit c 10) before ≡ true → list_all (λ c. is_digit c 10) after ≡ true →
     are_digits 38 (before ++ after) ≡ true
-joined-digits before after some few front back =
+joined-digits before after some few leading back =
     rw (
       length-append,
       lt-ltb 0 (length before + length after) (omega arith),
       le-leb (length before + length after) 38 few,
       list_all-append (λ c. is_digit c 10) before after,
-      front,
+      leading,
       back,
     )
 
@@ -103,7 +103,7 @@ joined-digits before after some few front back =
 nano_moved-at : (number before after : List ℕ) → before_first is_point number ≡ before →
     after_first is_point number ≡ after → length after ≤ 9 → are_digits 38 (before ++ after) ≡ true →
     nano_moved number 0 0 ≡ limited (nanos before after)
-nano_moved-at number before after front back few digits = rw (front, back, digits, moved-none before after few)
+nano_moved-at number before after leading back few digits = rw (leading, back, digits, moved-none before after few)
 
 -- a text without the letter of an exponent is looked at whole
 nano_size-plain : (text : List ℕ) → position_or_len is_letter text ≡ length text → nano_size text ≡ nano_moved text 0 0
@@ -124,17 +124,18 @@ nano_size-digits digits some few each =
 nano_size-pointed : (before after : List ℕ) → 0 < length before → length before + length after ≤ 38 →
     length after ≤ 9 → list_all (λ c. is_digit c 10) before ≡ true → list_all (λ c. is_digit c 10) after ≡ true →
     nano_size (before ++ 46 ∷ after) ≡ limited (nanos before after)
-nano_size-pointed before after some few places front back =
+nano_size-pointed before after some few places leading back =
     let place : position_or_len is_point (before ++ 46 ∷ after) ≡ length before =
-    past-digits is_point before (46 ∷ after) digit-no_point front ∙ omega arith in
+    past-digits is_point before (46 ∷ after) digit-no_point leading ∙ omega arith in
     let rest = digits-place is_letter after digit-no_letter back in
     let letter : position_or_len is_letter (before ++ 46 ∷ after) ≡ length (before ++ 46 ∷ after) =
-    past-digits is_letter before (46 ∷ after) digit-no_letter front ∙ rw length-append (omega arith) in
+    past-digits is_letter before (46 ∷ after) digit-no_letter leading ∙ rw length-append (omega arith) in
     let first : before_first is_point (before ++ 46 ∷ after) ≡ before =
     rw place (take-append_seam before (46 ∷ after)) in
     let past : after_first is_point (before ++ 46 ∷ after) ≡ after = rw place (drop-append-add before (46 ∷ after) 1) in
     nano_size-plain (before ++ 46 ∷ after) letter ∙
-    nano_moved-at (before ++ 46 ∷ after) before after first past places (joined-digits before after some few front back)
+    nano_moved-at (before ++ 46 ∷ after) before after first past places
+    (joined-digits before after some few leading back)
 
 -- a text that begins with a digit after its minus has no other sign
 without_sign-digits : (minus : Bool) (bytes digits rest : List ℕ) → has_minus bytes ≡ minus →
@@ -145,8 +146,7 @@ without_sign-digits false bytes [] rest sign is some each = absurd (omega arith)
 without_sign-digits false bytes (c ∷ cs) rest sign is some each =
     let first : is_digit c 10 ≡ true = (and_parts (is_digit c 10) (list_all (λ c. is_digit c 10) cs) each).0 in
     let whole : bytes ≡ c ∷ (cs ++ rest) = rw sign at is in
-    let other = digit-no_sign c first in
-    rw (whole, other.0, other.1)
+    rw (whole, digit-no_minus c first, digit-no_plus c first)
 
 -- a number of nanodegrees within the limit
 limited-within : (n : ℕ) → n ≤ 10 ^ 18 → limited n ≡ Some n
@@ -174,7 +174,7 @@ nano_size-short : (text before after : List ℕ) → before_first is_point text 
     length after ≤ 9 → nano_size text ≡ limited (nanos before after)
 nano_size-short text before after first past digits back places =
     let size = are_digits-length 9 before digits in
-    let front = list_all-are_digits 9 before digits in
+    let leading = list_all-are_digits 9 before digits in
     elim (cases_lt (position_or_len is_point text) (length text)) [
       | inl within ↦
           let point : get_or text (position_or_len is_point text) 0 ≡ 46 =
@@ -184,13 +184,13 @@ nano_size-short text before after first past digits back places =
           drop-cons text (position_or_len is_point text) 0 within ∙ rw point (ap (λ t. 46 ∷ t) tail) in
           let whole : text ≡ before ++ 46 ∷ after =
           sym (take-append-drop (position_or_len is_point text) text) ∙ rw (first, rest) refl in
-          rw whole (nano_size-pointed before after size.0 (omega arith) places front back)
+          rw whole (nano_size-pointed before after size.0 (omega arith) places leading back)
       | inr end ↦
           let whole : text ≡ before =
           sym (take_all (position_or_len is_point text) text (omega arith)) ∙ first in
           let none : after ≡ [] =
           sym past ∙ drop_all (position_or_len is_point text + 1) text (omega arith) in
-          rw (whole, none) (nano_size-digits before size.0 (omega arith) front)
+          rw (whole, none) (nano_size-digits before size.0 (omega arith) leading)
     ]
 
 -- what was read as short degrees is the size

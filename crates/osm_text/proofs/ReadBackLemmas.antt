@@ -27,14 +27,14 @@ decimal-digits n small = digits_decimal digits_model n small
 decimal-value : (n : ℕ) → n < 2 ^ 64 → digits_value 10 (decimal n) ≡ n
 decimal-value n small = digits_value-decimal digits_model n small
 
--- one to so many digits are digits
+-- one or more digits are digits
 are_digits-from : (most : ℕ) (bytes : List ℕ) → 0 < length bytes → length bytes ≤ most →
     list_all (λ c. is_digit c 10) bytes ≡ true → are_digits most bytes ≡ true
 are_digits-from most bytes some within digits =
     rw (lt-ltb 0 (length bytes) some, le-leb (length bytes) most within, digits)
 
 -- a digit is no minus
-digit-no_minus : (c : ℕ) → is_digit c 10 ≡ true → (c == 45) ≡ false
+pub digit-no_minus : (c : ℕ) → is_digit c 10 ≡ true → (c == 45) ≡ false
 digit-no_minus c digit = grind (arith, nat_tests)
 
 -- a text that begins with a digit has no minus

@@ -57,7 +57,7 @@ text-reads year month day hour minute second a b c d e f =
       pair-value second f,
     ) refl
 
--- the time of the day after so many seconds
+-- the time of the day a number of seconds after midnight
 clock-reads : (seconds : ℕ) → seconds < 86400 →
     existing_clock (seconds / 3600) (seconds / 60 % 60) (seconds % 60) ≡ Some seconds
 clock-reads seconds low =
@@ -69,7 +69,7 @@ clock-reads seconds low =
       whole,
     ) refl
 
--- the date after so many days
+-- the date a number of days after 1970-01-01
 date-reads : (year month day n : ℕ) → IsNumbered year month day n → existing_day year month day ≡ Some n
 date-reads year month day n is = rw (exists-numbered year month day n is, is.value) refl
 

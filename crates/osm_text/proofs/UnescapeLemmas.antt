@@ -1,5 +1,5 @@
 -- The reading of escaped texts: hexadecimal numbers, and the parts around each %.
-use Rattle.std.proofs.Common.{◌≡◌, ◌<◌, ◌≤◌, ◌+◌, ◌*◌, ◌^◌, ◌∷◌, ◌++◌, [], ℕ, true, false, List, length, take, drop, get_or, Option, None, Some, MatchOption, refl, arith, ap, sym, ◌∙◌, append_assoc, add-one}
+use Rattle.std.proofs.Common.{◌≡◌, ◌<◌, ◌≤◌, ◌+◌, ◌*◌, ◌^◌, ◌∷◌, ◌++◌, [], ℕ, true, false, List, length, take, get_or, Option, None, Some, MatchOption, refl, arith, ap, sym, ◌∙◌, append_assoc, add-one}
 use Rattle.std.specs.Prelude.{if◌then◌else◌, ◌==◌}
 use Rattle.std.specs.Char.{is_digit, digit_value, encode_utf8, IsScalar, InScalarRange, OutOfScalarRange}
 use Rattle.std.specs.Fmt.{◌++?◌}
@@ -12,9 +12,8 @@ use Rattle.std.proofs.lemmas.Bool.{and_from}
 use Rattle.std.proofs.lemmas.Bool.Decides.{nat_tests}
 use Rattle.std.proofs.lemmas.Int.Digits.{digits_value_more}
 use Rattle.std.proofs.lemmas.List.Folds.{list_all_more}
-use Rattle.std.proofs.lemmas.List.Splits.{length-slice_split, join_with_byte-slice_split}
-use Rattle.std.proofs.lemmas.Str.{IsUtf8-append, IsUtf8-take, IsUtf8-drop, IsCharBoundary-before_ascii, IsCharBoundary-after_ascii}
-use Rattle.std.proofs.lemmas.Grind.{common_steps}
+use Rattle.std.proofs.lemmas.List.Splits.{length-slice_split}
+use Rattle.std.proofs.lemmas.Str.{IsUtf8-append}
 use Rattle.osm_text.specs.Escapes.{are_hex, escape_code, is_char, unescaped, unescaped_parts}
 use Rattle.osm_text.proofs.KeptLemmas.{kept_some}
 
@@ -84,7 +83,7 @@ parts-plain : (plain : List ℕ) (parts : List (List ℕ)) → 0 < length parts 
 parts-plain plain [] some = absurd (omega arith)
 parts-plain plain (code ∷ parts) some = ap (λ t. Some plain ++? t) (sym (nothing-before _))
 
--- a text is its plain front and what follows the first %
+-- a text is its plain head and what follows the first %
 pub unescaped-plain : (text plain after : List ℕ) →
     slice_split (λ b. b == 37) text ≡ plain ∷ slice_split (λ b. b == 37) after →
     unescaped text ≡ Some plain ++? unescaped (37 ∷ after)
@@ -97,37 +96,6 @@ pub unescaped-char : (out after : List ℕ) (c : ℕ) (rest new : List ℕ) →
     unescaped (37 ∷ after) ≡ Some (encode_utf8 c) ++? unescaped rest → new ≡ out ++ encode_utf8 c →
     Some out ++? unescaped (37 ∷ after) ≡ Some new ++? unescaped rest
 unescaped-char out after c rest new is grown = rw (is, grown) (texts-join out (encode_utf8 c) (unescaped rest))
-
--- the parts around a first % are the text
-pub split-joined : (text front back : List ℕ) (parts : List (List ℕ)) → slice_split (λ b. b == 37) back ≡ parts →
-    slice_split (λ b. b == 37) text ≡ front ∷ parts → text ≡ front ++ 37 ∷ back
-split-joined text front back [] rest is =
-    absurd (omega (arith, length-slice_split (λ b. b == 37) back, ap length rest))
-split-joined text front back (part ∷ parts) rest is =
-    let whole = rw is at (join_with_byte-slice_split 37 text) in
-    let more = rw rest at (join_with_byte-slice_split 37 back) in
-    sym whole ∙ ap (λ t. front ++ 37 ∷ t) more
-
--- UTF-8 around an ASCII character is UTF-8
-utf8-around : (front back : List ℕ) → IsUtf8 (front ++ 37 ∷ back) → IsUtf8 front × IsUtf8 back
-utf8-around front back whole =
-    let here : get_or (front ++ 37 ∷ back) (length front) 0 ≡ 37 = grind (arith, common_steps) in
-    let within : length front < length (front ++ 37 ∷ back) = grind (arith, common_steps) in
-    let before : take (length front) (front ++ 37 ∷ back) ≡ front = grind (arith, common_steps) in
-    let after : drop (length front + 1) (front ++ 37 ∷ back) ≡ back = grind (arith, common_steps) in (
-      rw before at
-          (IsUtf8-take _ (length front) whole (IsCharBoundary-before_ascii _ (length front) within (omega arith))),
-      rw after at
-          (IsUtf8-drop _ (length front + 1) whole
-          (IsCharBoundary-after_ascii _ (length front) whole within (omega arith))),
-    )
-
--- the parts of UTF-8 around a first % are UTF-8
-pub utf8-parts : (text front back : List ℕ) →
-    slice_split (λ b. b == 37) text ≡ front ∷ slice_split (λ b. b == 37) back → IsUtf8 text → IsUtf8 front × IsUtf8 back
-utf8-parts text front back is whole =
-    let joined = split-joined text front back (slice_split (λ b. b == 37) back) refl is in
-    utf8-around front back (rw joined at whole)
 
 -- what was read so far, and the next part of plain text and character
 pub unescaped-step : (bytes out rest plain after grown new more : List ℕ) →

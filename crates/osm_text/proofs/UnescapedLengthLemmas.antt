@@ -11,13 +11,14 @@ use Rattle.std.proofs.lemmas.Bool.Decides.{nat_tests}
 use Rattle.std.proofs.lemmas.Str.{length-encode, len_utf8_bounds, len_utf8_ascii}
 use Rattle.osm_text.specs.Escapes.{are_hex, escape_code, is_char, unescaped}
 use Rattle.osm_text.proofs.KeptLemmas.{kept_some}
-use Rattle.osm_text.proofs.UnescapeLemmas.{split-joined, unescaped-plain}
+use Rattle.osm_text.proofs.SplitLemmas.{split-joined}
+use Rattle.osm_text.proofs.UnescapeLemmas.{unescaped-plain}
 
 -- how many bytes an unescaped text has
 abbrev pub text_length : List ℕ → Option ℕ
 text_length text = option_map length (unescaped text)
 
--- a length with so many bytes before
+-- a length with more bytes before
 abbrev pub longer : ℕ → Option ℕ → Option ℕ
 longer n None = None
 longer n (Some k) = Some (n + k)
@@ -34,12 +35,11 @@ longer-longer a b None = refl
 longer-longer a b (Some k) = ap Some (omega arith)
 
 -- the parts around a first part, in bytes
-pub length-parts : (text front back : List ℕ) →
-    slice_split (λ b. b == 37) text ≡ front ∷ slice_split (λ b. b == 37) back →
-    length text ≡ length front + 1 + length back
-length-parts text front back is =
-    let joined = split-joined text front back (slice_split (λ b. b == 37) back) refl is in
-    rw (joined, length-append) (omega arith)
+pub length-parts : (text head rest : List ℕ) →
+    slice_split (λ b. b == 37) text ≡ head ∷ slice_split (λ b. b == 37) rest →
+    length text ≡ length head + 1 + length rest
+length-parts text head rest is =
+    rw (split-joined 37 text head rest is, length-append) (omega arith)
 
 -- a hexadecimal digit is that of an ASCII character
 digit-width : (d n : ℕ) → is_digit d 16 ≡ true → n ≡ digit_value d → len_utf8 n ≡ 1
@@ -61,12 +61,12 @@ pub text_length-step : (bytes rest plain after more : List ℕ) (total c width :
     unescaped (37 ∷ after) ≡ Some (encode_utf8 c) ++? unescaped more → width ≡ len_utf8 c →
     text_length bytes ≡ longer (total + (length plain + width)) (text_length more)
 text_length-step bytes rest plain after more total c width so_far split is wide =
-    let front : text_length rest ≡ longer (length plain) (text_length (37 ∷ after)) =
+    let head : text_length rest ≡ longer (length plain) (text_length (37 ∷ after)) =
     ap (option_map length) (unescaped-plain rest plain after split) ∙ length-joined plain (unescaped (37 ∷ after)) in
     let next : text_length (37 ∷ after) ≡ longer width (text_length more) =
     ap (option_map length) is ∙ length-joined (encode_utf8 c) (unescaped more) ∙
     ap (λ n. longer n (text_length more)) (length-encode c ∙ sym wide) in
-    so_far ∙ ap (longer total) (front ∙ ap (longer (length plain)) next) ∙
+    so_far ∙ ap (longer total) (head ∙ ap (longer (length plain)) next) ∙
     longer-longer total (length plain) (longer width (text_length more)) ∙
     longer-longer (total + length plain) width (text_length more) ∙
     ap (λ n. longer n (text_length more)) (omega arith)

@@ -6,14 +6,16 @@ use Rattle.std.specs.Fmt.{digits, ◌++?◌}
 use Rattle.std.specs.List.{flat_map, list_all, slice_split}
 use Rattle.std.specs.Option.{option_map}
 use Rattle.std.specs.Str.Parse.{digits_value}
+use Rattle.osm_entity.specs.Ascii.{space, percent_sign, comma, equals_sign, at_sign, delete_character}
 
 -- the code points 0 to 32 and 127, and the characters % , = @
 abbrev pub is_reserved : ℕ → Bool
-is_reserved b = nat_le b 32 || b == 37 || b == 44 || b == 61 || b == 64 || b == 127
+is_reserved b =
+    nat_le b space || b == percent_sign || b == comma || b == equals_sign || b == at_sign || b == delete_character
 
 -- a code point in hexadecimal digits between two %
 abbrev pub hex_escape : ℕ → List ℕ
-hex_escape n = 37 ∷ digits 16 false n ++ 37 ∷ []
+hex_escape n = percent_sign ∷ digits 16 false n ++ percent_sign ∷ []
 
 -- a reserved byte as %hex%, any other as it is
 abbrev pub escaped_byte : ℕ → List ℕ
@@ -44,4 +46,4 @@ unescaped_parts (plain ∷ code ∷ parts) =
 
 -- a text with a character in the place of each %hex%, where each % belongs to one
 abbrev pub unescaped : List ℕ → Option (List ℕ)
-unescaped text = unescaped_parts (slice_split (λ b. b == 37) text)
+unescaped text = unescaped_parts (slice_split (λ b. b == percent_sign) text)

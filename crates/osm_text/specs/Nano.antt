@@ -4,11 +4,12 @@ use Rattle.std.specs.Prelude.{ℕ, ℤ, ◌+◌, ◌*◌, ◌/◌, ◌^◌, List
 use Rattle.std.specs.List.{position_or_len, before_first, after_first}
 use Rattle.std.specs.Option.{option_map}
 use Rattle.std.specs.Str.Parse.{digits_value}
+use Rattle.osm_entity.specs.Ascii.{plus_sign, letter_e, capital_e, point}
 use Rattle.osm_text.specs.Numbers.{are_digits, has_minus, signed}
 
 -- a text begins with a minus or a plus
 abbrev pub has_sign : List ℕ → Bool
-has_sign bytes = has_minus bytes || (slice_index bytes 0 == 43)
+has_sign bytes = has_minus bytes || (slice_index bytes 0 == plus_sign)
 
 -- a text without its sign
 abbrev pub without_sign : List ℕ → List ℕ
@@ -16,11 +17,11 @@ without_sign bytes = if has_sign bytes then drop 1 bytes else bytes
 
 -- the letter before an exponent, e or E
 abbrev pub is_letter : ℕ → Bool
-is_letter b = (b == 101) || (b == 69)
+is_letter b = (b == letter_e) || (b == capital_e)
 
 -- the point between degrees and their decimals
 abbrev pub is_point : ℕ → Bool
-is_point b = b == 46
+is_point b = b == point
 
 -- an exponent is an optional sign and one to four digits
 abbrev pub is_exponent : List ℕ → Bool

@@ -4,10 +4,11 @@ use Rattle.std.specs.Prelude.{ℕ, ℤ, pos, neg_ℤ, nat_abs, ◌-◌, ◌/◌,
 use Rattle.std.specs.Char.{is_digit}
 use Rattle.std.specs.List.{list_all, suffix_len}
 use Rattle.std.specs.Str.Parse.{digits_value}
+use Rattle.osm_entity.specs.Ascii.{minus_sign, digit_zero, point}
 
 -- a text begins with a minus
 abbrev pub has_minus : List ℕ → Bool
-has_minus bytes = slice_index bytes 0 == 45
+has_minus bytes = slice_index bytes 0 == minus_sign
 
 -- a text without its minus
 abbrev pub unsigned_part : List ℕ → List ℕ
@@ -17,7 +18,7 @@ unsigned_part bytes = if has_minus bytes then drop 1 bytes else bytes
 abbrev pub signed : Bool → ℕ → ℤ
 signed minus n = if minus then neg_ℤ (pos n) else pos n
 
--- only digits, at least one and at most so many
+-- only digits: at least one, and no more than a number of them
 abbrev pub are_digits : ℕ → List ℕ → Bool
 are_digits most bytes = nat_lt 0 (length bytes) && nat_le (length bytes) most && list_all (λ c. is_digit c 10) bytes
 
@@ -38,15 +39,15 @@ whole bytes =
 
 -- digits without the zeros at their end
 abbrev pub trimmed : List ℕ → List ℕ
-trimmed digits = take (length digits - suffix_len (λ c. c == 48) digits) digits
+trimmed digits = take (length digits - suffix_len (λ c. c == digit_zero) digits) digits
 
 -- a number below 10^9 in nine digits
 abbrev pub nine_digits : ℕ → List ℕ
-nine_digits n = replicate (9 - length (decimal n)) 48 ++ decimal n
+nine_digits n = replicate (9 - length (decimal n)) digit_zero ++ decimal n
 
 -- what follows the whole degrees: nothing for 0, else a point and nine digits without the zeros at their end
 abbrev pub fraction_text : ℕ → List ℕ
-fraction_text n = if n == 0 then [] else 46 ∷ trimmed (nine_digits n)
+fraction_text n = if n == 0 then [] else point ∷ trimmed (nine_digits n)
 
 -- nanodegrees as degrees: a minus below 0, the whole degrees, and the rest
 abbrev pub nano_text : ℤ → List ℕ

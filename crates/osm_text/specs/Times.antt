@@ -1,9 +1,10 @@
 -- Times as texts, as 2010-01-01T00:00:00Z: the calendar, and seconds since 1970-01-01T00:00:00Z.
--- Here days are counted year by year, month by month and day by day; the code divides.
+-- Here days are counted year by year, month by month and day by day; the code takes the calendar of jiff.
 use Rattle.std.specs.Prelude.{ℕ, zero, suc, ◌+◌, ◌-◌, ◌*◌, ◌/◌, ◌%◌, ◌^◌, List, [], ◌∷◌, ◌++◌, length, take, drop, Bool, not, ◌&&◌, ◌||◌, ◌==◌, nat_lt, nat_le, if◌then◌else◌, Option, Some, None, slice_index}
 use Rattle.std.specs.Char.{is_digit}
 use Rattle.std.specs.List.{list_all}
 use Rattle.std.specs.Str.Parse.{digits_value}
+use Rattle.osm_entity.specs.Ascii.{minus_sign, colon, digit_zero, capital_t, capital_z}
 
 -- every fourth year is a leap year, but of the centuries only every fourth
 abbrev pub is_leap : ℕ → Bool
@@ -24,12 +25,12 @@ abbrev pub is_date : ℕ → ℕ → ℕ → Bool
 is_date year month day =
     nat_le 1970 year && nat_lt 0 month && nat_le month 12 && nat_lt 0 day && nat_le day (month_length year month)
 
--- the days of so many years from 1970 on
+-- the days of a number of years from 1970 on
 unfoldable pub days_of_years : ℕ → ℕ
 days_of_years zero = 0
 days_of_years (suc count) = days_of_years count + year_length (1970 + count)
 
--- the days of the first so many months of a year
+-- the days of the first months of a year
 unfoldable pub days_of_months : ℕ → ℕ → ℕ
 days_of_months year zero = 0
 days_of_months year (suc count) = days_of_months year count + month_length year (suc count)
@@ -56,7 +57,7 @@ next_date d =
     else if nat_lt d.month 12 then record { year = d.year; month = d.month + 1; day = 1 }
     else record { year = d.year + 1; month = 1; day = 1 }
 
--- the date so many days after 1970-01-01, one day after another
+-- the date a number of days after 1970-01-01, one day after another
 unfoldable pub date_after : ℕ → DateValue
 date_after zero = record { year = 1970; month = 1; day = 1 }
 date_after (suc days) = next_date (date_after days)
@@ -93,8 +94,8 @@ are_two_digits bytes place = is_digit (slice_index bytes place) 10 && is_digit (
 -- two hyphens, a T, two colons and a Z stand at their places
 abbrev pub has_marks : List ℕ → Bool
 has_marks bytes =
-    (slice_index bytes 4 == 45) && (slice_index bytes 7 == 45) && (slice_index bytes 10 == 84) &&
-    (slice_index bytes 13 == 58) && (slice_index bytes 16 == 58) && (slice_index bytes 19 == 90)
+    (slice_index bytes 4 == minus_sign) && (slice_index bytes 7 == minus_sign) && (slice_index bytes 10 == capital_t) &&
+    (slice_index bytes 13 == colon) && (slice_index bytes 16 == colon) && (slice_index bytes 19 == capital_z)
 
 -- twenty bytes of the form YYYY-MM-DDTHH:MM:SSZ
 abbrev pub has_form : List ℕ → Bool
@@ -102,7 +103,7 @@ has_form bytes =
     (length bytes == 20) && has_marks bytes &&
     list_all (are_two_digits bytes) date_places && list_all (are_two_digits bytes) clock_places
 
--- the number that so many digits write from a place on
+-- the number that a number of digits write from a place on
 abbrev pub number_at : ℕ → ℕ → List ℕ → ℕ
 number_at place count bytes = digits_value 10 (take count (drop place bytes))
 
@@ -125,25 +126,25 @@ time bytes = if has_form bytes then time_at (day_at bytes) (clock_at bytes) else
 
 -- a number below 100 in two digits
 abbrev pub two_text : ℕ → List ℕ
-two_text n = (48 + n / 10) ∷ (48 + n % 10) ∷ []
+two_text n = (digit_zero + n / 10) ∷ (digit_zero + n % 10) ∷ []
 
 -- a date as YYYY-MM-DD
 abbrev pub date_text : ℕ → ℕ → ℕ → List ℕ
 date_text year month day =
-    two_text (year / 100) ++ two_text (year % 100) ++ 45 ∷ two_text month ++ 45 ∷ two_text day
+    two_text (year / 100) ++ two_text (year % 100) ++ minus_sign ∷ two_text month ++ minus_sign ∷ two_text day
 
 -- a time of the day as HH:MM:SS
 abbrev pub clock_text : ℕ → ℕ → ℕ → List ℕ
-clock_text hour minute second = two_text hour ++ 58 ∷ two_text minute ++ 58 ∷ two_text second
+clock_text hour minute second = two_text hour ++ colon ∷ two_text minute ++ colon ∷ two_text second
 
 -- seconds from midnight as HH:MM:SS
 abbrev pub clock_after : ℕ → List ℕ
 clock_after seconds = clock_text (seconds / 3600) (seconds / 60 % 60) (seconds % 60)
 
--- the date after so many days as YYYY-MM-DD
+-- the date a number of days after 1970-01-01 as YYYY-MM-DD
 abbrev pub date_after_text : ℕ → List ℕ
 date_after_text days = date_text (date_after days).year (date_after days).month (date_after days).day
 
 -- seconds since 1970-01-01T00:00:00Z as the text of a time: days of 86,400 seconds, and the rest of a day
 unfoldable pub time_text : ℕ → List ℕ
-time_text seconds = date_after_text (seconds / 86400) ++ 84 ∷ clock_after (seconds % 86400) ++ 90 ∷ []
+time_text seconds = date_after_text (seconds / 86400) ++ capital_t ∷ clock_after (seconds % 86400) ++ capital_z ∷ []

@@ -4,8 +4,8 @@ ghost use Rattle.std.specs.List.{position, slice_split};
 
 use memchr::memchr;
 
-/// The place of the first `byte`, counted from 0; `None` where it isn't there.
-fn place_of(bytes: &[u8], byte: u8) -> Option<usize>
+/// The position of the first `byte`, counted from 0; `None` where it isn't there.
+fn position_of(bytes: &[u8], byte: u8) -> Option<usize>
     ensures { result ≡ position (λ b. b == byte) bytes.now }
 {
     memchr(byte, bytes)
@@ -18,7 +18,7 @@ pub fn first_part(bytes: &[u8], byte: u8) -> Option<(&[u8], &[u8])>
         slice_split (λ b. b == byte) bytes.now ≡ p.0.now ∷ slice_split (λ b. b == byte) p.1.now) }
     ensures shorter { IfSome result (λ p. length p.1.now < length bytes.now) }
 {
-    match place_of(bytes, byte) {
+    match position_of(bytes, byte) {
         Some(at) => Some((&bytes[..at], &bytes[at + 1..])),
         None => None,
     }

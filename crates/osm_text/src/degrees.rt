@@ -75,8 +75,8 @@ fn read_joined(before: &[u8], after: &[u8]) -> Option<u128>
     if digits > MOST_DIGITS {
         return None;
     }
-    let front = read_on(0, 0, before)?;
-    read_on(front, before.len(), after)
+    let leading = read_on(0, 0, before)?;
+    read_on(leading, before.len(), after)
 }
 
 fn limit(size: u128) -> Option<u64>
@@ -89,7 +89,7 @@ fn limit(size: u128) -> Option<u64>
     Some(size as u64)
 }
 
-/// The number times so many tens. Past 18 tens all but 0 is too large.
+/// The number times a power of ten. Past the 18th all but 0 is too large.
 fn times(number: u128, tens: u32) -> Option<u64>
     ensures value { result ≡ limited (number * 10 ^ tens) }
     ensures size { IfSome result (λ n. n ≤ 10 ^ 18) }
@@ -107,7 +107,7 @@ fn times(number: u128, tens: u32) -> Option<u64>
     limit(number * scale)
 }
 
-/// The number divided by so many tens. Past 37 tens nothing is left of it.
+/// The number divided by a power of ten. Past the 37th nothing is left of it.
 fn parts(number: u128, tens: u32) -> Option<u64>
     requires { number < 10 ^ 38 }
     ensures value { result ≡ limited (number / 10 ^ tens) }
@@ -158,22 +158,22 @@ fn find_letter(bytes: &[u8]) -> Option<usize>
     bytes.iter().position(|byte| *byte == b'e' || *byte == b'E')
 }
 
-fn point_place(bytes: &[u8]) -> usize
+fn position_of_point(bytes: &[u8]) -> usize
     ensures value { result ≡ position_or_len is_point bytes.now }
     ensures within { result ≤ length bytes.now }
 {
     find_point(bytes).unwrap_or(bytes.len())
 }
 
-fn letter_place(bytes: &[u8]) -> usize
+fn position_of_letter(bytes: &[u8]) -> usize
     ensures value { result ≡ position_or_len is_letter bytes.now }
     ensures within { result ≤ length bytes.now }
 {
     find_letter(bytes).unwrap_or(bytes.len())
 }
 
-/// The bytes after a place; none after the last.
-fn after_place(bytes: &[u8], at: usize) -> &[u8]
+/// The bytes after a position; none after the last.
+fn after_position(bytes: &[u8], at: usize) -> &[u8]
     requires { at ≤ length bytes.now }
     ensures { result.now ≡ drop (at + 1) bytes.now }
 {
@@ -190,8 +190,8 @@ fn size_of_moved(number: &[u8], right: u32, left: u32) -> Option<u64>
     ensures value { result ≡ nano_moved number.now right left }
     ensures size { IfSome result (λ n. n ≤ 10 ^ 18) }
 {
-    let at = point_place(number);
-    size_of_parts(&number[..at], after_place(number, at), right, left)
+    let at = position_of_point(number);
+    size_of_parts(&number[..at], after_position(number, at), right, left)
 }
 
 /// The places that an exponent moves the point to the right, and to the left.
@@ -216,8 +216,8 @@ fn size_of_short(unsigned: &[u8]) -> Option<u64>
     ensures value { IfSome result (λ n. Some n ≡ nano_size unsigned.now) }
     ensures size { IfSome result (λ n. n ≤ 10 ^ 18) }
 {
-    let at = point_place(unsigned);
-    nanos_of(&unsigned[..at], after_place(unsigned, at))
+    let at = position_of_point(unsigned);
+    nanos_of(&unsigned[..at], after_position(unsigned, at))
 }
 
 /// The size of a number with or without an exponent.
@@ -225,11 +225,11 @@ fn size_in_full(unsigned: &[u8]) -> Option<u64>
     ensures value { result ≡ nano_size unsigned.now }
     ensures size { IfSome result (λ n. n ≤ 10 ^ 18) }
 {
-    let at = letter_place(unsigned);
+    let at = position_of_letter(unsigned);
     if at == unsigned.len() {
         return size_of_moved(unsigned, 0, 0);
     }
-    let (right, left) = read_exponent(after_place(unsigned, at))?;
+    let (right, left) = read_exponent(after_position(unsigned, at))?;
     size_of_moved(&unsigned[..at], right, left)
 }
 

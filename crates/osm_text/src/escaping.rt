@@ -14,8 +14,8 @@ fn must_escape(byte: u8) -> bool
     byte <= b' ' || matches!(byte, b'%' | b',' | b'=' | b'@' | 127)
 }
 
-/// The place of the first reserved byte, counted from 0; `None` where there is none.
-fn reserved_place(bytes: &[u8]) -> Option<usize>
+/// The position of the first reserved byte, counted from 0; `None` where there is none.
+fn position_of_reserved(bytes: &[u8]) -> Option<usize>
     ensures { result ≡ position is_reserved bytes.now }
 {
     bytes.iter().position(|byte| must_escape(*byte))
@@ -28,7 +28,7 @@ fn plain_part(bytes: &[u8]) -> Option<(&[u8], u8, &[u8])>
         escaped bytes.now ≡ p.0.now ++ hex_escape p.1 ++ escaped p.2.now) }
     ensures shorter { IfSome result (λ p. length p.2.now < length bytes.now) }
 {
-    match reserved_place(bytes) {
+    match position_of_reserved(bytes) {
         Some(at) => Some((&bytes[..at], bytes[at], &bytes[at + 1..])),
         None => None,
     }

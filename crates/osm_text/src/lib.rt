@@ -4,23 +4,16 @@
 
 mod cutting;
 mod degrees;
-#[cfg(test)]
-mod degrees_tests;
 mod digits;
 mod escape_laws;
-#[cfg(test)]
-mod escape_tests;
 mod escaping;
+mod example_laws;
 mod fraction;
 mod laws;
 mod nano;
 mod short;
-#[cfg(test)]
-mod tests;
 mod time;
 mod time_laws;
-#[cfg(test)]
-mod time_tests;
 mod unescaping;
 mod whole;
 
@@ -28,6 +21,7 @@ pub use cutting::first_part;
 pub use degrees::read_nano;
 pub use escape_laws::escaped_reads_back;
 pub use escaping::escape;
+pub use example_laws::{far_degrees, no_numbers_and_times};
 pub use laws::{nano_reads_back, whole_reads_back};
 pub use nano::write_nano;
 pub use time::{BadTime, read_time, write_time};

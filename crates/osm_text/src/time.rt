@@ -172,7 +172,7 @@ fn write_halves(out: &mut Bytes, t: u32) -> Result<(), NoMemory>
     out.append(&clock_bytes(t % 86_400))
 }
 
-/// Appends the time so many seconds after 1970-01-01T00:00:00Z, as `2010-01-01T00:00:00Z`.
+/// Appends the time this number of seconds after 1970-01-01T00:00:00Z, as `2010-01-01T00:00:00Z`.
 /// At `Err` nothing is appended.
 pub fn write_time(out: &mut Bytes, t: u32) -> Result<(), NoMemory>
     ensures ok { OnOk result (out.new ≡ out.old ++ time_text t) }

@@ -11,7 +11,7 @@ pub fn days_follow()
         ≡ day_number d.year d.month d.day + 1 }
 {}
 
-/// The date after so many days has that day number.
+/// The date a number of days after 1970-01-01 has that day number.
 pub fn dates_have_their_numbers()
     ensures { (n : ℕ) →
         day_number (date_after n).year (date_after n).month (date_after n).day ≡ n }

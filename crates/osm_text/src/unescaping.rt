@@ -1,6 +1,6 @@
 //! Reads escaped texts, as `50%25%`: one to eight hexadecimal digits of either case between two `%`
 //! stand for the character of that code point, as the OPL file format manual says.
-ghost use Rattle.std.specs.Prelude.{◌≡◌, ◌<◌, ◌≤◌, ◌++◌, ◌∷◌, ◌==◌, ◌+◌, ℕ, None, Some, IfErr, IfOk, IfNone, IfSome, OnErr, OnOk, IsErrOf, IsUtf8, if◌then◌else◌, length};
+ghost use Rattle.std.specs.Prelude.{◌≡◌, ◌<◌, ◌≤◌, ◌++◌, ◌∷◌, ◌==◌, ◌+◌, ℕ, None, Some, IfOk, IfNone, IfSome, OnErr, OnOk, IsErrOf, IsUtf8, if◌then◌else◌, length};
 ghost use Rattle.std.specs.Char.{digit_value, encode_utf8, is_digit, len_utf8};
 ghost use Rattle.std.specs.Fmt.{◌++?◌};
 ghost use Rattle.std.specs.Option.{option_map};
@@ -19,8 +19,8 @@ pub enum EscapeError {
     /// A `%` that begins no escape, or a number that is no character.
     #[error("bad escape")]
     BadEscape,
-    /// Memory was wanted, and there was none.
-    #[error("no memory")]
+    /// Out of memory.
+    #[error("out of memory")]
     Memory,
 }
 
@@ -120,7 +120,8 @@ fn unescaped_bytes(alloc: Global, bytes: &[u8]) -> Result<Bytes, EscapeError>
     ensures utf8 { IfOk result (λ text. IsUtf8 text) }
     ensures refused { IsErrOf result EscapeError.BadEscape → unescaped bytes.now ≡ None }
 {
-    let mut out = Bytes::new(alloc);
+    // An escape is no shorter than its character.
+    let mut out = Bytes::with_room(alloc, bytes.len())?;
     let mut rest = bytes;
     while let Some((plain, after)) = first_part(rest, b'%') {
         out.append(plain)?;
@@ -128,15 +129,6 @@ fn unescaped_bytes(alloc: Global, bytes: &[u8]) -> Result<Bytes, EscapeError>
     }
     out.append(rest)?;
     Ok(out)
-}
-
-fn text_of(alloc: Global, bytes: &[u8]) -> Result<Text, EscapeError>
-    requires { IsUtf8 bytes.now }
-    ensures value { IfOk result (λ text. text ≡ bytes.now) }
-    ensures refused { IfErr result (λ error. error ≡ EscapeError.Memory) }
-{
-    // These bytes are UTF-8, so nothing but memory can be wanted.
-    Text::from_bytes(alloc, bytes).map_err(|_| EscapeError::Memory)
 }
 
 /// The text that was escaped. `BadEscape` exactly where a `%` begins no escape or its number is no
@@ -147,10 +139,10 @@ pub fn unescape(alloc: Global, bytes: &[u8]) -> Result<Text, EscapeError>
     ensures refused { IsErrOf result EscapeError.BadEscape → unescaped bytes.now ≡ None }
 {
     if first_part(bytes, b'%').is_none() {
-        return text_of(alloc, bytes);
+        return Ok(Text::from_utf8(alloc, bytes)?);
     }
     let text = unescaped_bytes(alloc, bytes)?;
-    text_of(alloc, text.as_slice())
+    Ok(Text::from_utf8(alloc, text.as_slice())?)
 }
 
 /// How many bytes the text that was escaped has; `None` exactly where a `%` begins no escape or its

@@ -4,6 +4,7 @@ ghost use Rattle.std.specs.FinMap as map;
 ghost use Rattle.std.specs.Str.{bytes_eq};
 ghost use Rattle.osm_host.specs.Held.{files_of};
 
+use crate::naming::{Named, position_of};
 use osm_entity::{Bytes, NoMemory, Sequence, Text};
 
 /// A file in memory.
@@ -16,10 +17,12 @@ pub struct FileHeld {
 /// Files in memory, in any order.
 pub type Files = Sequence<FileHeld>;
 
-fn place_of(files: &[FileHeld], name: &Text) -> Option<usize>
-    ensures { result ≡ position (λ f. bytes_eq name.now f.name) files.now }
-{
-    files.iter().position(|file| file.name.is(name))
+impl Named for FileHeld {
+    ghost name = { λ f. f.name };
+
+    fn name(&self) -> &Text {
+        &self.name
+    }
 }
 
 /// The bytes of the file of this name. `None` exactly where there is no such file.
@@ -28,7 +31,7 @@ pub(crate) fn bytes_of<'a>(files: &'a [FileHeld], name: &Text) -> Option<&'a Byt
         (map.get (files_of files.now) name.now ≡ None)
         (λ bytes. map.get (files_of files.now) name.now ≡ Some bytes.now) }
 {
-    match place_of(files, name) {
+    match position_of(files, name) {
         Some(at) => Some(&files[at].bytes),
         None => None,
     }
@@ -39,7 +42,7 @@ pub(crate) fn put_file(files: &mut Files, name: Text, bytes: Bytes) -> Result<()
     ensures ok { OnOk result (files_of files.new ≡ map.insert (files_of files.old) name bytes) }
     ensures err { OnErr result (files.new ≡ files.old) }
 {
-    match place_of(files.as_slice(), &name) {
+    match position_of(files.as_slice(), &name) {
         Some(at) => {
             files.set(at, FileHeld { name, bytes });
             Ok(())

@@ -1,12 +1,9 @@
 //! Which calls of a host in memory fail: the nth of a kind on a name, counted from 1.
-ghost use Rattle.std.specs.Prelude.{◌≡◌, ℕ, ◌↔◌, List, Contains, IfOk, IsTrue};
-ghost use Rattle.osm_host.specs.Counts.{raised, is_at, Adds};
-ghost use Rattle.osm_host.specs.Plans.{is_due, nths_of, HasRows};
-ghost use Rattle.osm_host.specs.Tallies.{faults_in, names_in};
-ghost use Rattle.osm_host.specs.declared.outside.Op.{Op};
+ghost use Rattle.std.specs.Prelude.{◌≡◌, IfOk};
+ghost use Rattle.osm_host.specs.Counts.{is_at};
+ghost use Rattle.osm_host.specs.Plans.{is_planned, nearer, after_call, CallsComeNearer};
 
 use crate::outside::Op;
-use crate::tallies::Tallies;
 use osm_entity::{NoMemory, Sequence, Text};
 use std::alloc::Global;
 
@@ -23,102 +20,89 @@ pub struct FailAt {
 pub type Fails = Sequence<FailAt>;
 
 impl FailAt {
+    fn copy(&self, alloc: Global) -> Result<FailAt, NoMemory>
+        ensures { IfOk result (λ f. f ≡ self.now) }
+    {
+        let name = self.name.copy(alloc)?;
+        Ok(FailAt {
+            name,
+            op: self.op,
+            nth: self.nth,
+        })
+    }
+
     fn is_at(&self, op: Op, name: &Text) -> bool
         ensures { result ≡ is_at op name.now self.now.op self.now.name }
     {
         self.op.number() == op.number() && name.is(&self.name)
     }
-}
 
-/// The calls of one source or sink: how many there were, and which of them fail.
-#[derive(Debug, Drop)]
-pub struct Turns {
-    pub nths: Vec<u64>,
-    pub calls: u64,
-}
-
-impl Turns {
-    /// Counts one more call, and says whether it fails.
-    pub fn fails(&mut self) -> bool
-        ensures calls { self.new.calls ≡ raised self.old.calls 1 }
-        ensures same { self.new.nths.items ≡ self.old.nths.items }
-        ensures value { IsTrue result ↔ Contains self.new.nths.items self.new.calls }
+    /// Comes one call nearer, where this call is of its kind and on its name.
+    fn pass(&mut self, op: Op, name: &Text)
+        ensures { self.new ≡ nearer op name.now self.old }
     {
-        self.calls = self.calls.saturating_add(1);
-        self.nths.contains(&self.calls)
+        if self.is_at(op, name) {
+            self.nth = self.nth.saturating_sub(1);
+        }
     }
 }
 
-/// The calls of a host: how many there were of each kind on each name that fails, and which fail.
+/// The calls that fail from now on: here an nth is counted from the next call.
 #[derive(Debug, Drop)]
 pub struct Plan {
-    pub fails: Fails,
-    /// Here the rows count calls, and not faults.
-    pub calls: Tallies,
+    pub fails: Vec<FailAt>,
 }
 
-fn has_call(fails: &[FailAt], op: Op, name: &Text, nth: u64) -> bool
-    ensures { result ≡ is_due op name.now nth fails.now }
+fn copies(alloc: Global, fails: &[FailAt]) -> Result<Vec<FailAt>, NoMemory>
+    ensures { IfOk result (λ v. v.items ≡ fails.now) }
+{
+    let mut copies = Vec::new(alloc);
+    for fail in fails {
+        if copies.push(fail.copy(alloc)?).is_err() {
+            return Err(NoMemory);
+        }
+    }
+    Ok(copies)
+}
+
+fn has_call(fails: &[FailAt], op: Op, name: &Text) -> bool
+    ensures { result ≡ is_planned op name.now 1 fails.now }
 {
     fails
         .iter()
-        .any(|fail| fail.is_at(op, name) && fail.nth == nth)
+        .any(|fail| fail.is_at(op, name) && fail.nth == 1)
 }
 
-fn rows_of(alloc: Global, fails: &[FailAt]) -> Result<Tallies, NoMemory>
-    ensures known { IfOk result (λ t. HasRows t fails.now) }
-    ensures counts { IfOk result (λ t. (o : Op) (n : List ℕ) → faults_in t o n ≡ 0) }
+fn pass_each(fails: &mut [FailAt], op: Op, name: &Text)
+    ensures { fails.new ≡ after_call op name.now fails.old }
 {
-    let mut calls = Tallies::new(alloc);
-    for fail in fails {
-        calls.enter(alloc, &fail.name)?;
+    for fail in fails.iter_mut() {
+        fail.pass(op, name);
     }
-    Ok(calls)
 }
 
 impl Plan {
     /// A plan before the first call.
-    pub fn new(alloc: Global, fails: Fails) -> Result<Plan, NoMemory>
-        ensures fails { IfOk result (λ p. p.fails ≡ fails) }
-        ensures known { IfOk result (λ p. HasRows p.calls p.fails) }
-        ensures counts { IfOk result (λ p. (o : Op) (n : List ℕ) → faults_in p.calls o n ≡ 0) }
+    pub fn new(alloc: Global, fails: &[FailAt]) -> Result<Plan, NoMemory>
+        ensures { IfOk result (λ p. p.fails.items ≡ fails.now) }
     {
-        let calls = rows_of(alloc, fails.as_slice())?;
-        Ok(Plan { fails, calls })
+        let fails = copies(alloc, fails)?;
+        Ok(Plan { fails })
     }
 
-    /// Counts one more call of this kind on this name, and says whether it fails.
-    /// A name of which no call fails is not counted.
+    /// Whether a call of this kind on this name fails, which is then made.
     pub fn fails(&mut self, op: Op, name: &Text) -> bool
-        ensures same { self.new.fails ≡ self.old.fails }
-        ensures known { names_in self.new.calls ≡ names_in self.old.calls }
-        ensures counts { Contains (names_in self.old.calls) name.now →
-            Adds op name.now 1 (faults_in self.old.calls) (faults_in self.new.calls) }
-        ensures value { Contains (names_in self.old.calls) name.now →
-            result ≡ is_due op name.now (faults_in self.new.calls op name.now) self.new.fails }
+        ensures value { result ≡ is_planned op name.now 1 self.old.fails.items }
+        ensures after { self.new.fails.items ≡ after_call op name.now self.old.fails.items }
     {
-        if !self.calls.is_known(name) {
-            return false;
-        }
-        self.calls.add(op, name, 1);
-        let nth = self.calls.count(op, name);
-        has_call(self.fails.as_slice(), op, name, nth)
-    }
-
-    /// Which calls of this kind on this name fail, for a source or a sink that was just opened.
-    pub fn turns(&self, alloc: Global, op: Op, name: &Text) -> Result<Turns, NoMemory>
-        ensures nths { IfOk result (λ t. t.nths.items ≡ nths_of op name.now self.now.fails) }
-        ensures calls { IfOk result (λ t. t.calls ≡ 0) }
-    {
-        let fails = self.fails.as_slice();
-        match fails
-            .iter()
-            .filter(|fail| fail.is_at(op, name))
-            .map(|fail| fail.nth)
-            .collect(alloc)
-        {
-            Ok(nths) => Ok(Turns { nths, calls: 0 }),
-            Err(_) => Err(NoMemory),
-        }
+        let fails = has_call(&self.fails, op, name);
+        pass_each(&mut self.fails, op, name);
+        fails
     }
 }
+
+/// After a call of a kind on a name, the nth of them from now was the one after the nth; of all
+/// other kinds and names it stays the nth. So from the plan of a new host the nth call fails.
+pub fn calls_come_nearer()
+    ensures { CallsComeNearer }
+{}

@@ -4,9 +4,9 @@ use Rattle.std.proofs.KnownBytes.{Appends-trans}
 use Rattle.osm_host_std.proofs.transfers.write_whole.Goals as goal
 
 -- what was taken of the rest comes after what is done
-moves_front : (all done rest : List ℕ) (n : ℕ) → all ≡ done ++ rest →
+goes_on : (all done rest : List ℕ) (n : ℕ) → all ≡ done ++ rest →
     all ≡ (done ++ take n rest) ++ take (length rest - n) (drop n rest)
-moves_front all done rest n e =
+goes_on all done rest n e =
     e ∙ ap (λ l. done ++ l) (sym (take-append-drop n rest)) ∙ sym (append_assoc done (take n rest) (drop n rest))
     ∙ ap (λ l. (done ++ take n rest) ++ l) (sym (take_rest rest n))
 
@@ -15,4 +15,4 @@ loop-rest-preserved g c =
     let (done, split, appended) = c.loop-rest.invariant in
     let rest = c.loop-rest.rest.now in
     let n = c.in_ok-count.count in
-    (done ++ take n rest, moves_front _ done rest n split, Appends-trans _ _ _ _ _ appended c.in_ok-count.ensures.ok)
+    (done ++ take n rest, goes_on _ done rest n split, Appends-trans _ _ _ _ _ appended c.in_ok-count.ensures.ok)

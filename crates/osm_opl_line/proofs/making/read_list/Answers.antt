@@ -1,9 +1,11 @@
-use Rattle.osm_opl_line.proofs.MadeListLemmas.{parts-utf8, read-more}
+use Rattle.std.proofs.Common.{arith}
+use Rattle.osm_text.proofs.SplitLemmas.{IsUtf8-parts}
+use Rattle.osm_opl_line.proofs.MadeListLemmas.{read-more}
 use Rattle.osm_opl_line.proofs.making.read_list.Goals as goal
 
 pub read-requires-clause-utf8 : goal.read-requires-clause-utf8
 read-requires-clause-utf8 g c =
-    (parts-utf8 c.loop-part.rest.now c.in-Some.part.now c.in-Some.more.now c.in-Some.ensures.some
+    (IsUtf8-parts 44 c.loop-part.rest.now c.in-Some.part.now c.in-Some.more.now (omega arith) c.in-Some.ensures.some
     c.loop-part.invariant.utf8).0
 
 pub loop-part-preserved : goal.loop-part-preserved

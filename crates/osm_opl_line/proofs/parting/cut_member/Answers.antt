@@ -9,7 +9,7 @@ use Rattle.osm_entity.specs.declared.verdict.Cause.TheVariants.{BadField}
 use Rattle.osm_text.specs.Numbers.{whole}
 use Rattle.osm_opl_line.specs.Contents.{is_at_sign, kind_by, member_in, member_of, text_in}
 use Rattle.osm_opl_line.proofs.PartLemmas.{IsUtf8-cut, list_any-found, list_any-not_found, position-some}
-use Rattle.osm_opl_line.proofs.Utf8Lemmas.{IsUtf8-behind}
+use Rattle.osm_text.proofs.SplitLemmas.{IsUtf8-behind}
 use Rattle.osm_opl_line.proofs.parting.cut_member.Goals as goal
 
 -- a list without its first element, as a slice

@@ -4,9 +4,9 @@ use Rattle.std.proofs.lemmas.List.{take-append-drop, take-replicate, append-nil}
 use Rattle.osm_text.proofs.fraction.pointed_digits.Goals as goal
 
 -- a list is what stands before a place and what stands from it on
-joined : (bytes front back : List ℕ) (start : ℕ) →
-    take start bytes ≡ front → drop start bytes ≡ back → bytes ≡ front ++ back
-joined bytes front back start before after = let whole = take-append-drop start bytes in cc
+joined : (bytes head back : List ℕ) (start : ℕ) →
+    take start bytes ≡ head → drop start bytes ≡ back → bytes ≡ head ++ back
+joined bytes head back start before after = let whole = take-append-drop start bytes in cc
 
 pub write_digits-requires : goal.write_digits-requires
 write_digits-requires c = (length-decimal-le 10 c.args.n (omega arith) (omega arith) (omega arith), omega arith)

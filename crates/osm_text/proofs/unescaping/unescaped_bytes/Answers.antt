@@ -1,15 +1,17 @@
-use Rattle.osm_text.proofs.UnescapeLemmas.{unescaped-step, utf8-grown, utf8-parts}
+use Rattle.std.proofs.Common.{arith}
+use Rattle.osm_text.proofs.SplitLemmas.{IsUtf8-parts}
+use Rattle.osm_text.proofs.UnescapeLemmas.{unescaped-step, utf8-grown}
 use Rattle.osm_text.proofs.unescaping.unescaped_bytes.Goals as goal
 
 pub push_escaped-requires : goal.push_escaped-requires
 push_escaped-requires c =
-    (utf8-parts c.loop-plain.rest.now c.in-Some.plain.now c.in-Some.after.now c.in-Some.ensures.some
-    c.loop-plain.invariant.more).1
+    (IsUtf8-parts 37 c.loop-plain.rest.now c.in-Some.plain.now c.in-Some.after.now (omega arith)
+    c.in-Some.ensures.some c.loop-plain.invariant.more).1
 
 pub loop-plain-preserved : goal.loop-plain-preserved
 loop-plain-preserved c =
-    let parts = utf8-parts c.loop-plain.rest.now c.in-Some.plain.now c.in-Some.after.now c.in-Some.ensures.some
-    c.loop-plain.invariant.more in
+    let parts = IsUtf8-parts 37 c.loop-plain.rest.now c.in-Some.plain.now c.in-Some.after.now (omega arith)
+    c.in-Some.ensures.some c.loop-plain.invariant.more in
     record {
       read =
           unescaped-step c.args.bytes.now c.loop-plain.out c.loop-plain.rest.now c.in-Some.plain.now c.in-Some.after.now

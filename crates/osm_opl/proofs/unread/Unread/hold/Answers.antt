@@ -20,7 +20,7 @@ returns-clause-ok c =
     let u = c.self.inside in
     same_unread _ _
     (c.in_ok-append.ensures.ok
-    ∙ ap (λ front. u.held ++ front)
+    ∙ ap (λ first. u.held ++ first)
     (ap (λ xs. take (u.start + c.args.count - u.start) (drop u.start xs)) c.deref.ensures.value
     ∙ part-taken u.buffer.items u.start u.stop c.args.count (fits c))
     ∙ ap (λ v. v.held ++ take c.args.count v.piece) c.self.view_is)

@@ -2,7 +2,7 @@ use Rattle.std.proofs.Common.{◌≡◌, ℕ, ◌+◌, ◌-◌, ◌≤◌, List,
 use Rattle.std.proofs.lemmas.Grind.{common_steps}
 use Rattle.osm_host.proofs.memory.source.MemorySourceSource.pull.Goals as goal
 
--- a front that was copied before a tail, and what comes after it, are the whole
+-- a prefix that was copied before a tail, and what comes after the prefix, are the whole
 split : (n : ℕ) (rest tail : List ℕ) → n ≤ length rest → rest ≡ take n (take n rest ++ tail) ++ drop n rest
 split n rest tail fits = grind (arith, common_steps)
 

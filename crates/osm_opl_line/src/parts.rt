@@ -1,0 +1,172 @@
+//! The values of lists: tags, refs and members. Each is said by a part between commas, weighs
+//! something, and is written as a part again.
+ghost use Rattle.std.specs.Prelude.{◌≡◌, ◌≤◌, ◌+◌, ◌++◌, ◌∷◌, ℕ, List, Result, Ok, IfOk, IsOk, IsUtf8, OnErr, OnOk, length};
+ghost use Rattle.std.specs.Fmt.{signed_decimal};
+ghost use Rattle.osm_entity.specs.Entities.{member_weight, tag_weight};
+ghost use Rattle.osm_entity.specs.Prefixes.{IsPrefix};
+ghost use Rattle.osm_entity.specs.declared.verdict.Cause.{Cause};
+ghost use Rattle.osm_opl_line.specs.Contents.{member_in, ref_in, tag_in, text_in};
+ghost use Rattle.osm_opl_line.specs.Cut.{weighed};
+ghost use Rattle.osm_opl_line.specs.Line.{longest_line};
+ghost use Rattle.osm_opl_line.specs.Writing.{kind_letter, member_text, ref_text, tag_text};
+
+use crate::contents::weigh_text;
+use crate::parting::{cut_member, cut_ref, cut_tag, letter_of};
+use osm_entity::{Bytes, Cause, Kind, Member, NoMemory, Tag, Text};
+use osm_text::{EscapeError, escape, read_whole, unescape, write_whole};
+use std::alloc::Global;
+
+/// A value of a list: a tag, a ref or a member.
+pub(crate) trait Part: Drop {
+    /// The value that a part says, or the cause why it is bad.
+    ghost says: { List ℕ → Result Self Cause };
+
+    /// What a value weighs.
+    ghost weight: { Self → ℕ };
+
+    /// The part of a value.
+    ghost text: { Self → List ℕ };
+
+    /// What the value of a part weighs, or the cause why it is bad. Nothing is copied.
+    fn weigh(part: &[u8]) -> Result<u64, Cause>
+        requires { length part.now ≤ longest_line }
+        ensures value { result ≡ weighed weight (says part.now) }
+        ensures small { IfOk result (λ n. n ≤ 32 + length part.now) };
+
+    /// The value that a part says.
+    fn read(alloc: Global, part: &[u8]) -> Result<Self, NoMemory>
+        requires utf8 { IsUtf8 part.now }
+        requires fine { IsOk (says part.now) }
+        ensures { IfOk result (λ value. says part.now ≡ Ok value) };
+
+    /// Appends the part of a value. At `Err` some of it may stand at the end.
+    fn append_to(&self, out: &mut Bytes) -> Result<(), NoMemory>
+        ensures ok { OnOk result (out.new ≡ out.old ++ text self.now) }
+        ensures err { OnErr result (IsPrefix out.old out.new) };
+}
+
+impl Part for Tag {
+    ghost says = { tag_in };
+
+    ghost weight = { tag_weight };
+
+    ghost text = { tag_text };
+
+    // The cause of a bad key comes before that of a bad value.
+    fn weigh(part: &[u8]) -> Result<u64, Cause> {
+        let Some((key, value)) = cut_tag(part) else {
+            return Err(Cause::BadField);
+        };
+        let key = weigh_text(key)?;
+        let value = weigh_text(value)?;
+        Ok(32 + key + value)
+    }
+
+    fn read(alloc: Global, part: &[u8]) -> Result<Self, NoMemory> {
+        let Some((key, value)) = cut_tag(part) else {
+            unreachable!();
+        };
+        let key = read_text(alloc, key)?;
+        let value = read_text(alloc, value)?;
+        Ok(Tag { key, value })
+    }
+
+    fn append_to(&self, out: &mut Bytes) -> Result<(), NoMemory> {
+        escape(out, &self.key)?;
+        out.push(b'=')?;
+        escape(out, &self.value)
+    }
+}
+
+impl Part for i64 {
+    ghost says = { ref_in };
+
+    ghost weight = { λ _. 32 };
+
+    ghost text = { ref_text };
+
+    fn weigh(part: &[u8]) -> Result<u64, Cause> {
+        let Some(id) = cut_ref(part) else {
+            return Err(Cause::BadField);
+        };
+        match read_whole(id) {
+            Ok(_) => Ok(32),
+            Err(_) => Err(Cause::BadNumber),
+        }
+    }
+
+    fn read(_: Global, part: &[u8]) -> Result<Self, NoMemory> {
+        let Some(id) = cut_ref(part) else {
+            unreachable!();
+        };
+        let Ok(id) = read_whole(id) else {
+            unreachable!();
+        };
+        Ok(id)
+    }
+
+    fn append_to(&self, out: &mut Bytes) -> Result<(), NoMemory> {
+        append_id(out, Kind::Node, *self)
+    }
+}
+
+impl Part for Member {
+    ghost says = { member_in };
+
+    ghost weight = { member_weight };
+
+    ghost text = { member_text };
+
+    // The cause of a bad number comes before that of a bad role.
+    fn weigh(part: &[u8]) -> Result<u64, Cause> {
+        let Some((_, id, role)) = cut_member(part) else {
+            return Err(Cause::BadField);
+        };
+        match read_whole(id) {
+            Ok(_) => Ok(32 + weigh_text(role)?),
+            Err(_) => Err(Cause::BadNumber),
+        }
+    }
+
+    fn read(alloc: Global, part: &[u8]) -> Result<Self, NoMemory> {
+        let Some((kind, id, role)) = cut_member(part) else {
+            unreachable!();
+        };
+        let Ok(id) = read_whole(id) else {
+            unreachable!();
+        };
+        let role = read_text(alloc, role)?;
+        Ok(Member { kind, id, role })
+    }
+
+    fn append_to(&self, out: &mut Bytes) -> Result<(), NoMemory> {
+        append_id(out, self.kind, self.id)?;
+        out.push(b'@')?;
+        escape(out, &self.role)
+    }
+}
+
+/// The text that an escaped text without a fault says.
+pub(crate) fn read_text(alloc: Global, content: &[u8]) -> Result<Text, NoMemory>
+    requires utf8 { IsUtf8 content.now }
+    requires fine { IsOk (text_in content.now) }
+    ensures { IfOk result (λ text. text_in content.now ≡ Ok text) }
+{
+    if content.is_empty() {
+        return Ok(Text::new(alloc));
+    }
+    match unescape(alloc, content) {
+        Ok(text) => Ok(text),
+        Err(EscapeError::Memory) => Err(NoMemory),
+        Err(EscapeError::BadEscape) => unreachable!(),
+    }
+}
+
+/// Appends a kind and an id. At `Err` some of it may stand at the end.
+pub(crate) fn append_id(out: &mut Bytes, kind: Kind, id: i64) -> Result<(), NoMemory>
+    ensures ok { OnOk result (out.new ≡ out.old ++ kind_letter kind ∷ signed_decimal id) }
+    ensures err { OnErr result (IsPrefix out.old out.new) }
+{
+    out.push(letter_of(kind))?;
+    write_whole(out, id)
+}

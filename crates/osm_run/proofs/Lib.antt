@@ -1,0 +1,12 @@
+pub mod PullLemmas
+pub mod PutLemmas
+pub mod ReadLemmas
+pub mod CopyCourse
+pub mod KnownLemmas
+pub mod CountLemmas
+pub mod FileLemmas
+pub mod FaultLemmas
+pub mod OpeningLemmas
+pub mod OutcomeLemmas
+pub mod SayingLemmas
+pub mod WordLemmas

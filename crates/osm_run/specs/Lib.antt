@@ -1,0 +1,14 @@
+pub mod Causes
+pub mod Codes
+pub mod Command
+pub mod Copying
+pub mod Course
+pub mod Faults
+pub mod HowFar
+pub mod OnHost
+pub mod Outcome
+pub mod Plan
+pub mod Pulling
+pub mod Reading
+pub mod Tasks
+pub mod Words
