@@ -37,13 +37,15 @@ by_end rule grows xs Done t before =
     let same : (let s : Stream = record { items = xs; end = Done } in s) ≡ t = before.done refl in
     rw (← same) (before_itself (rule (record { items = xs; end = Done })))
 by_end rule grows xs Broken t before =
-    let later = grows_on rule grows xs before.rest in
+    let later = grows_on rule grows xs before.items.rest in
     record {
-      rest = later.rest ++ grows.last t.items t.end;
-      front = grows.ended t.items t.end
-          ∙ ap (λ items. (rule (broken_after items)).items ++ grows.last t.items t.end) before.front
-          ∙ ap (λ items. items ++ grows.last t.items t.end) later.joined
-          ∙ append_assoc (rule (broken_after xs)).items later.rest (grows.last t.items t.end);
+      items = record {
+        rest = later.rest ++ grows.last t.items t.end;
+        joined = grows.ended t.items t.end
+            ∙ ap (λ items. (rule (broken_after items)).items ++ grows.last t.items t.end) before.items.joined
+            ∙ ap (λ items. items ++ grows.last t.items t.end) later.joined
+            ∙ append_assoc (rule (broken_after xs)).items later.rest (grows.last t.items t.end);
+      };
       done = λ is. absurd (let still : (rule (broken_after xs)).end ≡ Broken = grows.broken xs in cc);
     }
 

@@ -6,4 +6,4 @@ pub mod OneInputLemmas
 mod PassingMachine
 pub mod PortLemmas
 pub mod PrefixLemmas
-mod StreamLemmas
+pub mod StreamLemmas

@@ -11,6 +11,7 @@ use Rattle.osm_entity.specs.declared.stream.End.{End}
 use Rattle.osm_entity.specs.declared.stream.End.TheVariants.{Broken}
 use Rattle.osm_entity.specs.declared.stream.Message.{Message}
 use Rattle.osm_entity.specs.declared.stream.Message.TheVariants.{Item as One, End as Last}
+use Rattle.osm_entity.proofs.PrefixLemmas.{prefix_none}
 use Rattle.osm_entity.proofs.StreamLemmas.{before_itself}
 
 -- ---- one message more
@@ -91,7 +92,7 @@ prefix_added x port message p = elim (cases_eq p port) [
 
 -- no messages are before any stream
 pub before_none : (s : Stream) → IsBefore (stream_of []) s
-before_none s = record { rest = s.items; front = refl; done = λ is. cc }
+before_none s = record { items = prefix_none s.items; done = λ is. cc }
 
 abbrev with_item : ItemValue → Stream → Stream
 with_item item s = record { items = item ∷ s.items; end = s.end }
@@ -101,8 +102,7 @@ pub before_more : (item : ItemValue) (xs ys : List ItemValue) (d e : End) →
     IsBefore (record { items = xs; end = d }) (record { items = ys; end = e }) →
     IsBefore (record { items = item ∷ xs; end = d }) (record { items = item ∷ ys; end = e })
 before_more item xs ys d e before = record {
-  rest = before.rest;
-  front = ap (λ items. item ∷ items) before.front;
+  items = record { rest = before.items.rest; joined = ap (λ items. item ∷ items) before.items.joined };
   done = λ is. ap (with_item item) (before.done is);
 }
 

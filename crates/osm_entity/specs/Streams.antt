@@ -1,7 +1,8 @@
 -- Streams: a list of items and an end; and what it is for one stream to be before another.
 -- Here a stream is whole; the code sees one message at a time.
-use Rattle.std.specs.Prelude.{◌≡◌, List, ◌++◌}
+use Rattle.std.specs.Prelude.{◌≡◌, List}
 use Rattle.osm_entity.specs.Items.{ItemValue}
+use Rattle.osm_entity.specs.Prefixes.{IsPrefix}
 use Rattle.osm_entity.specs.declared.stream.End.{End}
 use Rattle.osm_entity.specs.declared.stream.End.TheVariants.{Done}
 
@@ -10,8 +11,7 @@ pub record Stream : Type 0 where
   pub items : List ItemValue
   pub end : End
 
--- a stream is before another if its items come first there, and is the other where it is done
+-- a stream is before another if its items are a prefix of the other's, and it is the other where it is done
 pub record IsBefore (a b : Stream) : Type 0 where
-  pub rest : List ItemValue
-  pub front : b.items ≡ a.items ++ rest
+  pub items : IsPrefix a.items b.items
   pub done : a.end ≡ Done → a ≡ b

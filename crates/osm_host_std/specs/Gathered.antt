@@ -14,8 +14,8 @@ abbrev pub write_failed : {F : Type 0} → Gatherer F → Bool
 write_failed gatherer = gatherer.output.has_failed
 
 -- the file took a prefix of what was gathered before and of these bytes
-abbrev pub TakesPrefix : {F : Type 0} → (F → Option (List ℕ)) → Gatherer F → Gatherer F → List ℕ → Type 0
-TakesPrefix contents before now bytes =
+abbrev pub GathersPrefix : {F : Type 0} → (F → Option (List ℕ)) → Gatherer F → Gatherer F → List ℕ → Type 0
+GathersPrefix contents before now bytes =
     AppendsPrefix (contents before.output.file) (contents now.output.file) (before.gathered.items ++ bytes)
 
 -- no write failed, and a file holds all that was held: nothing that was gathered is left unwritten

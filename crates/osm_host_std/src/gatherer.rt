@@ -1,7 +1,7 @@
 //! A writer that gathers what it is given, and writes it in large pieces.
 ghost use Rattle.std.specs.Prelude.{◌≡◌, [], true, false, OnOk, OnErr, IfOk};
 ghost use Rattle.std.specs.Io.KnownBytes.{Appends};
-ghost use Rattle.osm_host_std.specs.Gathered.{held, write_failed, TakesPrefix};
+ghost use Rattle.osm_host_std.specs.Gathered.{held, write_failed, GathersPrefix};
 ghost use Rattle.osm_host_std.specs.Written.{AppendsPrefix};
 
 use crate::output::Output;
@@ -54,14 +54,14 @@ impl<F> Gatherer<F> {
 
 impl<F: Write> Gatherer<F> {
     /// Takes the bytes. Where there is no room for them, it first writes what was gathered; more
-    /// bytes than the whole room has are written at once. At `Err` a write failed, and the file took
-    /// a prefix of what was gathered and of these.
+    /// bytes than the whole room has are written at once. At `Err` a write failed, and the file
+    /// took a prefix of what was gathered and of these.
     #[tactic(auto, using(crate::proofs::WrittenLemmas::prefix_of_more))]
     pub(crate) fn take(&mut self, bytes: &[u8]) -> Result<(), Failed>
         requires sound { write_failed self.old ≡ false }
         ensures ok { OnOk result
             (Appends (held F.contents self.old) (held F.contents self.new) bytes.now) }
-        ensures err { OnErr result (TakesPrefix F.contents self.old self.new bytes.now) }
+        ensures err { OnErr result (GathersPrefix F.contents self.old self.new bytes.now) }
         ensures sound { OnOk result (write_failed self.new ≡ false) }
         ensures failed { OnErr result (write_failed self.new ≡ true) }
     {

@@ -93,7 +93,8 @@ where
             (names_in self.old.tallies) (names_in self.new.tallies) result }
 
         // Which file was opened.
-        ensures opened { IfOk result (λ s. AddsSource self.old.openings self.new.openings s.identity) }
+        ensures opened { IfOk result (λ s.
+            AddsSource self.old.openings self.new.openings s.identity) }
         ensures unopened { OnErr result (SameOpenings self.old.openings self.new.openings) }
     {
         self.tallies.enter(self.rt.alloc(), name)?;
@@ -146,7 +147,8 @@ where
 
         // Which file was opened, and that it can be written.
         ensures sound { IfOk result (λ k. write_failed k.gatherer ≡ false) }
-        ensures opened { IfOk result (λ k. AddsSink self.old.openings self.new.openings k.identity) }
+        ensures opened { IfOk result (λ k.
+            AddsSink self.old.openings self.new.openings k.identity) }
         ensures unopened { OnErr result (SameOpenings self.old.openings self.new.openings) }
     {
         self.tallies.enter(self.rt.alloc(), name)?;

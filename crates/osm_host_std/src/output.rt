@@ -42,7 +42,8 @@ impl<F> Output<F> {
 }
 
 impl<F: Write> Output<F> {
-    /// Writes the bytes whole. At `Err` the file took a prefix of them, and this was the last write.
+    /// Writes the bytes whole. At `Err` the file took a prefix of them, and nothing more may be
+    /// written.
     pub(crate) fn write(&mut self, bytes: &[u8]) -> Result<(), Failed>
         requires sound { self.old.has_failed ≡ false }
         ensures ok { OnOk result

@@ -4,7 +4,7 @@ ghost use Rattle.std.specs.Io.KnownBytes.{Appends};
 ghost use Rattle.osm_host.specs.Contents.{PutTakes};
 ghost use Rattle.osm_host.specs.Counts.{CountsRefusal};
 ghost use Rattle.osm_host.specs.declared.outside.HostError.TheVariants.{Memory};
-ghost use Rattle.osm_host_std.specs.Gathered.{held, write_failed, TakesPrefix};
+ghost use Rattle.osm_host_std.specs.Gathered.{held, write_failed, GathersPrefix};
 
 use crate::gatherer::Gatherer;
 use crate::openings::{Identity, Opened};
@@ -90,7 +90,7 @@ impl<F: Write> Sink for FileSink<F> {
 
         // A put that fails leaves a prefix. After it each is refused, and nothing is written.
         ensures prefix { OnErr result
-            (TakesPrefix F.contents self.old.gatherer self.new.gatherer bytes.now) }
+            (GathersPrefix F.contents self.old.gatherer self.new.gatherer bytes.now) }
         ensures failed { OnErr result (write_failed self.new.gatherer ≡ true) }
         ensures refused { write_failed self.old.gatherer ≡ true → IsErrOf result HostError.Failed }
         ensures idle { write_failed self.old.gatherer ≡ true →

@@ -254,10 +254,8 @@ gives_all r bytes came items s wants =
 pub before_now : (r : ReaderValue) (bytes : List ℕ) (came : Bool) (items : List ItemValue) → Stands r bytes came items →
     IsBefore (record { items = items; end = Broken }) (stream_read (reader_reading r bytes came))
 before_now r bytes came items s =
-    let first = gives_first r bytes came items s in
     record {
-      rest = first.rest;
-      front = first.joined;
+      items = gives_first r bytes came items s;
       done = λ done. let no : Broken ≡ Done = done in cc;
     }
 
@@ -289,9 +287,11 @@ before_later r bytes more items clean s =
     let first = gives_first r bytes false items s in
     let grows = opl_reading-prefix r.flow (take r.limit bytes) (take (r.limit - length bytes) more) clean in
     record {
-      rest = first.rest ++ grows.rest;
-      front = ap (λ (reading : Reading). reading.items) (reading-more r bytes more clean) ∙ grows.front
-          ∙ ap (λ all. all ++ grows.rest) first.joined ∙ append_assoc items first.rest grows.rest;
+      items = record {
+        rest = first.rest ++ grows.items.rest;
+        joined = ap (λ (reading : Reading). reading.items) (reading-more r bytes more clean) ∙ grows.items.joined
+            ∙ ap (λ all. all ++ grows.items.rest) first.joined ∙ append_assoc items first.rest grows.items.rest;
+      };
       done = λ done. let no : Broken ≡ Done = done in cc;
     }
 

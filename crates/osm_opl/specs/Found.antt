@@ -11,26 +11,26 @@ use Rattle.osm_opl.specs.Unread.{UnreadValue, HasNoNewline, IsUnread, unread_byt
 use Rattle.osm_opl.specs.declared.unread.Found.{Found}
 use Rattle.osm_opl.specs.declared.unread.Found.TheVariants.{Line, TooLong, Unfinished}
 
--- a line and its newline came off, and this is what the line says
+-- a line and its newline came off the unread bytes, and this is what the line says
 pub record TookLine (flow : Flow) (old new : UnreadValue) (read : LineRead) : Type 0 where
   pub line : List ℕ
   pub unended : HasNoNewline line
   pub cut : unread_bytes old ≡ line ++ newline ∷ unread_bytes new
   pub says : line_seen read ≡ opl_line flow line
 
--- no line ends in the bytes, and they are too many for one
+-- no line ends in the unread bytes, and they are too many for one
 pub record IsTooLong (old new : UnreadValue) : Type 0 where
   pub unended : HasNoNewline (unread_bytes old)
   pub long : longest_line < length (unread_bytes old)
   pub none : unread_bytes new ≡ []
 
--- no line ends in the bytes, and all are held
+-- no line ends in the unread bytes, and all are held
 pub record IsHeld (old new : UnreadValue) : Type 0 where
   pub held : new.held ≡ unread_bytes old
   pub piece : new.piece ≡ []
   pub kept : IsUnread new
 
--- what was found at the beginning
+-- what was found at the beginning of the unread bytes
 abbrev pub FoundIn : Flow → UnreadValue → UnreadValue → Found → Type 0
 FoundIn flow old new (Line read) = TookLine flow old new read
 FoundIn flow old new TooLong = IsTooLong old new

@@ -51,7 +51,7 @@ pub record HasNoLine (old new : ReaderValue) : Type 0 where
   pub kept : IsUnread new.unread
   pub none : is_line (reached_end new.feed) new.unread.held ≡ false
 
--- no byte was read
+-- a reader read no byte
 pub record SameRest (old new : ReaderValue) : Type 0 where
   pub same : new ≡ record old { unread = new.unread }
   pub rest : unread_bytes new.unread ≡ unread_bytes old.unread

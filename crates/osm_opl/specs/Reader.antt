@@ -19,7 +19,7 @@ pub record ReaderValue : Type 0 where
   pub unread : UnreadValue
   pub verdict : Verdict
 
--- what it keeps of its source
+-- what an OPL reader keeps of its source
 abbrev pub fed : ReaderValue → FeedValue
 fed r = record {
   limit = r.limit;
@@ -34,12 +34,12 @@ pub record IsReader (r : ReaderValue) : Type 0 where
   pub counted : r.lines + length (unread_bytes r.unread) ≤ r.given
   pub within : r.feed ≡ Open → r.given ≤ r.limit
 
--- it may be pulled: it runs, and no earlier pull failed, ended or passed the limit
+-- an OPL reader may be pulled: it runs, and no earlier pull failed, ended or passed the limit
 pub record CanPull (r : ReaderValue) : Type 0 where
   pub running : r.verdict ≡ Running
   pub feeds : r.feed ≡ Open
 
--- it wants a pull: it may be pulled, and what it holds is the beginning of one line, which may be good
+-- an OPL reader wants a pull: it may be pulled, and what it holds is the beginning of one line, which may be good
 pub record WantsPull (r : ReaderValue) : Type 0 where
   pub can : CanPull r
   pub passed : r.unread.piece ≡ []

@@ -2,7 +2,7 @@
 use Rattle.osm_opl.specs.Reader.{ReaderValue}
 use Rattle.osm_opl.specs.declared.reading.OplReader.TheInside.{Inside}
 
--- its fields but for its allocator
+-- a reader is seen as its fields, but for its allocator
 abbrev pub reader_seen : Inside → ReaderValue
 reader_seen r = record {
   flow = r.flow;

@@ -23,13 +23,13 @@ reading_from flow number bytes clean =
 abbrev pub reader_reading : ReaderValue → List ℕ → Bool → Reading
 reader_reading r bytes came = opl_reading r.flow (take r.limit bytes) came
 
--- whatever comes yet, the reading is these items and then the reading of what is unread
+-- whatever comes yet, the reading of a file is these items and then the reading of what is unread
 abbrev pub GoesOn : ReaderValue → List ℕ → List ItemValue → Type 0
 GoesOn r bytes items =
     (more : List ℕ) (clean : Bool) → MayCome r.feed more clean → opl_reading r.flow (take r.limit bytes ++ more) clean
     ≡ after items (reading_from r.flow (r.lines + 1) (unread_bytes r.unread ++ more) clean)
 
--- the reading is these items, and the verdict is that of its ending; a source that is open doesn't cut it off
+-- the reading of a file is these items, and its reader's verdict is that of its ending; an open source cuts nothing off
 pub record IsOver (r : ReaderValue) (bytes : List ℕ) (came : Bool) (items : List ItemValue) : Type 0 where
   pub all : (reader_reading r bytes came).items ≡ items
   pub verdict : r.verdict ≡ verdict_read r.limit (length bytes) (reader_reading r bytes came).ending

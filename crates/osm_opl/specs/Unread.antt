@@ -8,12 +8,12 @@ use Rattle.osm_opl_line.specs.Line.{longest_line}
 abbrev pub HasNoNewline : List ℕ → Type 0
 HasNoNewline bytes = All (λ b. (b == newline) ≡ false) bytes
 
--- the beginning of a line that goes on in the piece, and the bytes of pulls that were not read yet
+-- unread bytes: the beginning of a line that goes on in the piece, and the piece, which pulls gave
 pub record UnreadValue : Type 0 where
   pub held : List ℕ
   pub piece : List ℕ
 
--- all of them
+-- all bytes that were pulled and not read yet
 abbrev pub unread_bytes : UnreadValue → List ℕ
 unread_bytes u = u.held ++ u.piece
 
@@ -22,7 +22,7 @@ pub record IsUnread (u : UnreadValue) : Type 0 where
   pub unended : HasNoNewline u.held
   pub short : length u.held ≤ longest_line
 
--- the first line of these bytes has a count of them, and a newline ends it
+-- the first line of these bytes has this length, and a newline ends it
 pub record EndsAt (bytes : List ℕ) (count : ℕ) : Type 0 where
   pub within : count < length bytes
   pub unended : HasNoNewline (take count bytes)

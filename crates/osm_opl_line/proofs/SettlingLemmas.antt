@@ -217,10 +217,11 @@ opl_reading-prefix flow bytes more any =
     ))
     1 in
     record {
-      rest = begun.0;
-      front =
-          ap (λ lines. (read_lines flow any 1 lines).items) ys
-          ∙ begun.1
-          ∙ ap (λ lines. (read_lines flow false 1 lines).items ++ begun.0) (sym xs);
+      items = record {
+        rest = begun.0;
+        joined = ap (λ lines. (read_lines flow any 1 lines).items) ys
+            ∙ begun.1
+            ∙ ap (λ lines. (read_lines flow false 1 lines).items ++ begun.0) (sym xs);
+      };
       done = λ done. absurd (cut-isnt_done flow (lines_of false (slice_split (λ b. b == 10) bytes)) 1 done);
     }

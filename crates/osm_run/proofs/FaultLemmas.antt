@@ -54,6 +54,6 @@ how_read c Whole false is whole within cut past never = absurd (never is refl)
 how_read c Cut false is whole within cut past never = elim (size_test source_limit (length (c.given 0))
     (nat_lt source_limit (length (c.given 0))) refl) [
       | inl long ↦ PassedLimit is (past long) long
-      | inr short ↦ PullFailed is (cut refl short)
+      | inr short ↦ PullFailed is (cut refl short) short
     ]
 how_read c (Bad cause spot) false is whole within cut past never = WasWrong cause spot is refl

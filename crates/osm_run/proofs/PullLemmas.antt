@@ -1,5 +1,5 @@
 -- Lemmas on what came from a source.
-use Rattle.std.proofs.Common.{◌≡◌, ℕ, ◌+◌, ◌^◌, ◌<◌, ◌≤◌, List, ◌++◌, length, false, refl, sym, ap, subst, ◌∙◌, arith, append_assoc}
+use Rattle.std.proofs.Common.{◌≡◌, ℕ, ◌+◌, ◌^◌, ◌<◌, ◌≤◌, List, ◌++◌, length, false, refl, sym, ap, subst, ◌∙◌, arith}
 use Rattle.std.specs.Prelude.{OnErr, Option, Some, None, Ok, Err}
 use Rattle.std.specs.declared.result.Result.{Result}
 use Rattle.std.specs.Io.KnownBytes.{prepend_known}
@@ -12,18 +12,13 @@ use Rattle.osm_host.specs.declared.feed.Feed.{Feed}
 use Rattle.osm_host.specs.declared.feed.Feed.TheVariants.{Open, Ended, Failed, TooLong}
 use Rattle.osm_opl.specs.Reader.{CanPull, ReaderValue, SameSource, fed}
 use Rattle.osm_opl.specs.Standing.{Stands}
+use Rattle.osm_host.proofs.PullLemmas.{prepend-more}
 use Rattle.osm_run.specs.Pulling.{Pulled}
 use Rattle.osm_run.specs.Reading.{GaveMore, IsPulled}
 
 -- what holds anyway holds after an error
 pub OnErr-always : {T E Q : Type 0} (r : Result T E) → Q → OnErr r Q
 OnErr-always {Q = Q} r q = elim r as (λ r. OnErr r Q) [ Ok x ↦ tt | Err e ↦ q ]
-
--- bytes before bytes that stand before some
-pub prepend-prepend : (a b : List ℕ) (o : Option (List ℕ)) →
-    prepend_known a (prepend_known b o) ≡ prepend_known (a ++ b) o
-prepend-prepend a b None = refl
-prepend-prepend a b (Some xs) = ap Some (sym (append_assoc a b xs))
 
 -- a count that is raised below its last value is the sum
 raised-small : (count more : ℕ) → count ≤ 2 ^ 40 → more ≤ piece_size → raised count more ≡ count + more
@@ -37,7 +32,7 @@ pulled_more : (before mid now : SourceValue) (count counted : ℕ) (bytes more :
 pulled_more before mid now count counted bytes more so_far told gave is few small =
     let size : length (bytes ++ more) ≡ length bytes + length more = length-append bytes more in
     record {
-      told = so_far.told ∙ ap (prepend_known bytes) told ∙ prepend-prepend bytes more now.rest;
+      told = so_far.told ∙ ap (prepend_known bytes) told ∙ prepend-more bytes more now.rest;
       gave = rw (size, gave, so_far.gave) (raised-small (length bytes) (length more) few small);
       counted = rw (size, is, so_far.counted) (raised-small (length bytes) (length more) few small);
     }
@@ -80,7 +75,7 @@ pulled-bytes before mid now count old pulled items p can once =
     let few = pulled-few before mid count old items p can in
     let same : old.given ≡ count =
     p.stands.count ∙ raised-none (length p.bytes) few ∙ sym p.pulled.counted in
-    pulled_more before mid now count pulled.given p.bytes once.bytes p.pulled once.gave.told once.gave.gave
+    pulled_more before mid now count pulled.given p.bytes once.bytes p.pulled once.gave.source.told once.gave.source.counted
     (rw same at once.gave.counted) few once.gave.small
 
 -- one more pull, whose piece was taken apart

@@ -29,7 +29,8 @@ pub data HowRead (c : Course) (task limit : ℕ) (finish : Finish) : Type 0 wher
       HowRead c task limit finish
   PassedLimit : c.clean task ≡ false → c.failed Pull task ≡ false → limit < length (c.given task) →
       HowRead c task limit finish
-  PullFailed : c.clean task ≡ false → c.failed Pull task ≡ true → HowRead c task limit finish
+  PullFailed : c.clean task ≡ false → c.failed Pull task ≡ true → length (c.given task) ≤ limit →
+      HowRead c task limit finish
   WasWrong : (cause : Cause) → (spot : Spot) → c.clean task ≡ false → finish ≡ Wrong cause spot →
       HowRead c task limit finish
 

@@ -5,7 +5,7 @@ use Rattle.std.specs.Io.KnownBytes.{append_known}
 use Rattle.osm_entity.specs.Readings.{Reading, stream_read}
 use Rattle.osm_opl_line.specs.Writing.{opl_text}
 use Rattle.osm_host.specs.Pulls.{SourceValue}
-use Rattle.osm_host.specs.Puts.{TookPrefix}
+use Rattle.osm_host.specs.Puts.{TakesPrefix}
 use Rattle.osm_run.specs.OnHost.{CountsBy}
 use Rattle.osm_run.specs.Reading.{SourceIsRead}
 use Rattle.osm_run.specs.declared.copying.Ran.{Ran}
@@ -13,7 +13,7 @@ use Rattle.osm_run.specs.declared.copying.Ran.{Ran}
 -- a sink took these bytes, or after a failed put a prefix of them
 abbrev pub TakenBy : Bool → List ℕ → Option (List ℕ) → Option (List ℕ) → Type 0
 TakenBy false bytes before now = now ≡ append_known before bytes
-TakenBy true bytes before now = TookPrefix bytes before now
+TakenBy true bytes before now = TakesPrefix bytes before now
 
 -- the reader of a copy was read, and the lines of its items were put
 pub record TasksRan {K : Type 0} (before now : SourceValue) (taken : K → Option (List ℕ)) (faults : K → ℕ)

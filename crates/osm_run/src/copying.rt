@@ -107,7 +107,7 @@ fn not_opened(task: u32, refusal: HostError) -> Fault
     }
 }
 
-// The entry of the reader, after its tasks ran or was out of memory.
+// The entry of the reader, after the tasks ran or were out of memory.
 fn source_end(given: u64, ran: Result<Ran, NoMemory>) -> SourceEnd
     ensures { result ≡ entry_of given ran }
 {

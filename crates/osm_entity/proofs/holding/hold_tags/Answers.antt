@@ -7,7 +7,8 @@ use Rattle.osm_entity.proofs.holding.hold_tags.Goals as goal
 pub loop-tag-preserved : goal.loop-tag-preserved
 loop-tag-preserved c =
     All-more IsTagText c.args.tags.now c.loop-tag.tag-index c.tag-item.result (omega arith) c.loop-tag.invariant
-    (subst IsTagText c.tag-item.is (record { key = c.as_slice-key.ensures.utf8; value = c.as_slice-value.ensures.utf8 }))
+    (subst IsTagText c.tag-item.is
+    (record { key = c.as_slice-key.ensures.utf8; value = c.as_slice-value.ensures.utf8 }))
 
 pub returns : goal.returns
 returns c =
