@@ -253,11 +253,10 @@ gives_all r bytes came items s wants =
 -- what a reader gave is before the reading of what came
 pub before_now : (r : ReaderValue) (bytes : List ℕ) (came : Bool) (items : List ItemValue) → Stands r bytes came items →
     IsBefore (record { items = items; end = Broken }) (stream_read (reader_reading r bytes came))
-before_now r bytes came items s =
-    record {
-      items = gives_first r bytes came items s;
-      done = λ done. let no : Broken ≡ Done = done in cc;
-    }
+before_now r bytes came items s = record {
+  items = gives_first r bytes came items s;
+  done = λ done. let no : Broken ≡ Done = done in cc;
+}
 
 -- the first of bytes and more
 take-parts : (n : ℕ) (bytes more : List ℕ) →

@@ -169,6 +169,20 @@ fn refuses_at(pieces: &'static [u32], nth: u64) -> How<'static> {
     (Flow::Entities, ENOUGH, pieces, (Op::Put, b"b", nth))
 }
 
+/// Checks a copy however the source cuts its bytes.
+fn check_all<R: Abort + AllocGlobal>(
+    rt: &R,
+    file: File,
+    how: How,
+    gives: Gives,
+    pieces: &[u32],
+) -> Result<(), Fail> {
+    for piece in pieces {
+        check(rt, file, how, gives, (*piece).max(1))?;
+    }
+    Ok(())
+}
+
 fn bad(cause: Cause, line: u64) -> Verdict {
     let spot = Spot::Line(line);
     Verdict::Input { cause, spot }
@@ -232,9 +246,7 @@ fn a_file_is_copied_however_its_source_cuts_it_up_to_what_stops_it(rt: HostRunti
         (("a comment without an end", none, 0, b"#"), any, (none, clean, true, 1)),
     ];
     for (file, how, gives) in rows {
-        for piece in how.2 {
-            check(&rt, file, how, gives, (*piece).max(1))?;
-        }
+        check_all(&rt, file, how, gives, how.2)?;
     }
     Ok(())
 }

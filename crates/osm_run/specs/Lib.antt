@@ -4,10 +4,13 @@ pub mod Command
 pub mod Copying
 pub mod Course
 pub mod Faults
+pub mod Headline
 pub mod HowFar
+pub mod Lawful
 pub mod OnHost
 pub mod Outcome
 pub mod Plan
+pub mod Promises
 pub mod Pulling
 pub mod Reading
 pub mod Tasks

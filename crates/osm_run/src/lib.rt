@@ -4,7 +4,9 @@
 //! host after and the status: the outcome of a run.
 #![tactic(auto)]
 
+mod copy_laws;
 mod copying;
+mod laws;
 mod putting;
 mod reading;
 mod running;
@@ -13,5 +15,10 @@ mod status;
 mod tests;
 mod words;
 
+pub use copy_laws::{copies_are_lawful, copies_keep_the_headline, words_are_refused_rightly};
+pub use laws::{
+    calm_runs_are_complete, calm_stops_are_complete, clean_runs, entries_come_with_files,
+    faults_have_causes, others_stay, refusals_change_nothing, writers_hold,
+};
 pub use running::run_alone;
 pub use status::{DeviceCall, Ends, Fault, SourceEnd, Status};
