@@ -1,15 +1,25 @@
-# make: builds the program; make install PREFIX=..: puts it at PREFIX/bin/osm-tasks; make test: the tests.
+# make: builds the program; make install PREFIX=..: puts it at PREFIX/bin/osm-tasks, and its documents; make test: the
+# tests; make dist: packs what make install would put, for any x86-64 Linux with its C library.
 PREFIX ?= /usr/local
 DESTDIR ?=
+DOCUMENTS = README.md LICENSE docs/COMMANDS.md docs/FORMATS.md docs/PROMISES.md
+ARCHIVE = osm-tasks-x86_64-linux
 
-.PHONY: all install test
+.PHONY: all install dist test
 
 all:
 	tools/build
 
 install: all
-	install -d "$(DESTDIR)$(PREFIX)/bin"
+	install -d "$(DESTDIR)$(PREFIX)/bin" "$(DESTDIR)$(PREFIX)/share/doc/osm-tasks"
 	install -m 755 crates/osm_cli/out/osm_cli "$(DESTDIR)$(PREFIX)/bin/osm-tasks"
+	install -m 644 $(DOCUMENTS) "$(DESTDIR)$(PREFIX)/share/doc/osm-tasks"
+
+dist:
+	rm -rf out/$(ARCHIVE)
+	$(MAKE) install DESTDIR="$(CURDIR)/out/$(ARCHIVE)/" PREFIX=
+	tar -C out --sort=name --mtime=@0 --owner=0 --group=0 --numeric-owner -czf out/$(ARCHIVE).tar.gz $(ARCHIVE)
+	@echo "out/$(ARCHIVE).tar.gz"
 
 test:
 	.ci/run
