@@ -1,0 +1,5 @@
+pub mod ParityLemmas
+pub mod PathLemmas
+pub mod SectionLemmas
+pub mod BandLemmas
+pub mod RingLemmas

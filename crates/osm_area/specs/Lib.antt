@@ -1,0 +1,4 @@
+pub mod Edges
+pub mod Bands
+pub mod Rings
+pub mod Areas

@@ -1,0 +1,3 @@
+pub mod PipeLemmas
+pub mod RuleLemmas
+pub mod SpoolLemmas

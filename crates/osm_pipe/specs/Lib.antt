@@ -1,0 +1,4 @@
+pub mod Bounded
+pub mod Pipes
+pub mod Rule
+pub mod Spool

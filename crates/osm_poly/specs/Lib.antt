@@ -1,0 +1,5 @@
+pub mod Lines
+pub mod Points
+pub mod Sections
+pub mod Poly
+pub mod Seen
