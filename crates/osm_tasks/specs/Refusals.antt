@@ -36,7 +36,7 @@ abbrev pub outputs_said : TaskName → List OptionWord → ℕ
 outputs_said task words =
     if is_tee task then number_said OutputCount words else outputs_in_row (task_row task).output
 
--- a port, where there is one, is among the first so many
+-- a port, where there is one, is below this number of ports
 abbrev pub is_below : ℕ → Option ℕ → Bool
 is_below count None = false
 is_below count (Some port) = nat_lt port count
@@ -65,7 +65,7 @@ given_fault n task earlier word (Some option) =
     if list_any (gives option) earlier then Some (Repeated n word.word)
     else if allows (option_row option).values word.value then None else Some (BadValue n word.word)
 
--- what is wrong with a word of a task with so many inputs and outputs, after its earlier words
+-- what is wrong with a word of a task with these numbers of inputs and outputs, after its earlier words
 abbrev pub word_fault : (n : ℕ) → TaskName → (inputs outputs : ℕ) → List OptionWord → OptionWord → Option TaskError
 word_fault n task inputs outputs earlier word =
     if is_pipe word then pipe_fault n inputs outputs word
