@@ -52,9 +52,9 @@ counts-turned p a b = or_turned (counts_upward a b p) (counts_upward b a p) wher
   or_turned false false = refl
 
 -- what stands before the first place of a path that is gone back
-counted-front : (p a b : Place) (rest : List Place) →
+counted-first : (p a b : Place) (rest : List Place) →
     counted p ((reverse rest ++ b ∷ []) ++ a ∷ []) ≡ counted p (reverse rest ++ b ∷ []) + one_if (counts p (b, a))
-counted-front p a b rest = by_first (reverse rest) where
+counted-first p a b rest = by_first (reverse rest) where
   by_first : (back : List Place) →
       counted p ((back ++ b ∷ []) ++ a ∷ []) ≡ counted p (back ++ b ∷ []) + one_if (counts p (b, a))
   by_first [] = rw (last_from-one b) at (counted-behind p b [] a)
@@ -67,14 +67,14 @@ counted-reverse p [] = refl
 counted-reverse p (a ∷ []) = refl
 counted-reverse p (a ∷ b ∷ rest) =
     let back = counted-reverse p (b ∷ rest) in
-    let front = counted-front p a b rest in
+    let begun = counted-first p a b rest in
     let turned = ap one_if (counts-turned p b a) in
     let one = reverse-append (a ∷ []) (b ∷ rest) in
     let two = reverse-append (b ∷ []) rest in
     let whole : reverse (a ∷ b ∷ rest) ≡ (reverse rest ++ b ∷ []) ++ a ∷ [] =
     one ∙ ap (λ path. path ++ a ∷ []) two in
     let others = sym (ap (λ path. counted p path) two) ∙ back in
-    ap (λ path. counted p path) whole ∙ front ∙ ap (λ n. n + one_if (counts p (b, a))) others ∙
+    ap (λ path. counted p path) whole ∙ begun ∙ ap (λ n. n + one_if (counts p (b, a))) others ∙
     ap (λ n. counted p (b ∷ rest) + n) turned ∙ add_comm (counted p (b ∷ rest)) (one_if (counts p (a, b))) ∙
     sym (count_by-first (counts p) (a, b) (steps (b ∷ rest)))
 

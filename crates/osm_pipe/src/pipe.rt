@@ -110,7 +110,7 @@ pub fn spool<R: Wait>(_rt: &R, alloc: Global) -> Result<(Giver, Taker), NoMemory
 }
 
 impl Giver {
-    /// Sends an item, which may wait while the pipe is full. At `Err` a spool found no memory, or was
+    /// Sends an item, which may wait while the pipe is full. At `Err` a spool is out of memory, or
     /// sent 2^64 - 1 items before; the item comes back, and nothing was sent.
     #[tactic(auto, using(crate::proofs::PipeLemmas::has_end_item))]
     pub fn give<R: Wait>(&mut self, rt: &R, item: Item) -> Result<(), Item>

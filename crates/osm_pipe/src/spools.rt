@@ -79,7 +79,7 @@ impl Model for SpoolTaker {
 }
 
 impl SpoolGiver {
-    /// Sends an item. At `Err` there was no memory, or 2^64 - 1 items were sent, and the item
+    /// Sends an item. At `Err` it was out of memory, or 2^64 - 1 items were sent, and the item
     /// comes back.
     #[tactic(auto, using(crate::proofs::RuleLemmas::sends, crate::proofs::RuleLemmas::within_any, crate::proofs::SpoolLemmas::no_ends, crate::proofs::SpoolLemmas::spooled_item))]
     pub fn push<R: Wait>(&mut self, rt: &R, item: Item) -> Result<(), Item>

@@ -12,7 +12,7 @@ use Rattle.osm_poly.specs.declared.poly.PolyError.TheVariants.{Bad, Memory}
 use Rattle.osm_poly.specs.Points.{poly_place}
 use Rattle.osm_poly.specs.Sections.{adds, is_end, poly_sections, points, ring_part, with_point, with_section, first_bad}
 
--- what was read before, in front of what is read, unless that is bad
+-- what was read before, and then what is read, unless that is bad
 abbrev pub behind : {X : Type 0} → List X → Result (List X) ℕ → Result (List X) ℕ
 behind before (Ok more) = Ok (before ++ more)
 behind before (Err bad) = Err bad
