@@ -1,6 +1,6 @@
 use Rattle.std.proofs.Common.{◌≡◌}
 use Rattle.osm_opl.specs.Reader.{CanPull}
-use Rattle.osm_tests.proofs.readers.copy_items.Given as goal
+use Rattle.osm_readers_tests.proofs.readers.copy_items.Given as goal
 
 abbrev pub invariant-loop-pulls : goal.invariant-loop-pulls
 invariant-loop-pulls g l = record {
