@@ -10,7 +10,7 @@ import sys
 import time
 
 MASK = (1 << 64) - 1
-# One degree has so many steps.
+# The steps in one degree.
 DEGREE = 10_000_000
 
 USERS = ["mapper", "Anna Berg", "josé", "地図", "a,b=c@d", "night%shift", "survey_2009", "Österreich Import"]

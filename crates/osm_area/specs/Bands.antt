@@ -15,7 +15,7 @@ band_holds band place = lies_between band.low place.lat band.high
 abbrev pub band_passes : Band → Place → Bool
 band_passes band place = int_le band.low place.lat && int_lt place.lat band.high
 
--- bands fit a path: each holds its run of 32 edges, and they are all of them
+-- bands fit a path: each holds its run of 32 edges, they are all of them, and no edge is left over
 abbrev pub bands_fit : List Band → List Place → Bool
 bands_fit [] path = nat_le (length path) 1
 bands_fit (band ∷ bands) path = list_all (band_holds band) (take 33 path) && bands_fit bands (drop 32 path)
@@ -24,7 +24,7 @@ bands_fit (band ∷ bands) path = list_all (band_holds band) (take 33 path) && b
 abbrev pub group_fits : Group → List Place → Bool
 group_fits group path = list_all (band_holds group.whole) path && bands_fit group.runs path
 
--- groups fit a path: each fits its 1,024 edges, and they are all of them
+-- groups fit a path: each fits its 1,024 edges, they are all of them, and no edge is left over
 abbrev pub groups_fit : List Group → List Place → Bool
 groups_fit [] path = nat_le (length path) 1
 groups_fit (group ∷ groups) path = group_fits group (take 1025 path) && groups_fit groups (drop 1024 path)

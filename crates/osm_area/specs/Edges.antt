@@ -16,7 +16,7 @@ lies_between low value high = int_le low value && int_le value high
 abbrev pub passes_upward : Place → Place → Place → Bool
 passes_upward low high place = int_le low.lat place.lat && int_lt place.lat high.lat
 
--- where the edge from a lower place up to a higher one meets the latitude of a place, it is east of it
+-- a place is west of where the edge from a lower place up to a higher one meets its latitude
 abbrev pub is_west : Place → Place → Place → Bool
 is_west low high place =
     int_lt ((place.lon -ℤ low.lon) *ℤ (high.lat -ℤ low.lat)) ((place.lat -ℤ low.lat) *ℤ (high.lon -ℤ low.lon))

@@ -16,17 +16,17 @@ use Rattle.osm_entity.proofs.PrefixLemmas.{prefix_itself}
 first_port : (port : ℕ) → port < 1 → port ≡ 0
 first_port port known = omega arith
 
-uncut_verdict : (limit count : ℕ) (finish : Finish) → finish ≢ Cut →
+verdict_unless_cut : (limit count : ℕ) (finish : Finish) → finish ≢ Cut →
     verdict_as 0 0 finish ≡ verdict_as limit count finish
-uncut_verdict limit count Whole uncut = refl
-uncut_verdict limit count Passed uncut = refl
-uncut_verdict limit count Cut uncut = absurd (uncut refl)
-uncut_verdict limit count (Wrong cause spot) uncut = refl
+verdict_unless_cut limit count Whole not_cut = refl
+verdict_unless_cut limit count Passed not_cut = refl
+verdict_unless_cut limit count Cut not_cut = absurd (not_cut refl)
+verdict_unless_cut limit count (Wrong cause spot) not_cut = refl
 
 wants_by : {M : Type 0} (of : OneInput M) (m : M) (x y : Ports) (given : Given M) (want : Want) → KeepsItsRule of →
     GivesAtOnce of → GivesAtEnd of →
     of.stands m (x 0) (y 0) → of.wanted m ≡ want → MayWant (meanings_of of) m x y given want
-wants_by of m x y given Pull keeps at_once at_end stands is = absurd (keeps.unpulled m (x 0) (y 0) stands is)
+wants_by of m x y given Pull keeps at_once at_end stands is = absurd (keeps.never_pulls m (x 0) (y 0) stands is)
 wants_by of m x y given (Take port) keeps at_once at_end stands is =
     let fits = keeps.takes m (x 0) (y 0) port stands is in
     record {
@@ -53,7 +53,7 @@ wants_by of m x y given Ended keeps at_once at_end stands is =
           (keeps.whole m (x 0) (y 0) stands is);
       wrote = λ other. tt;
       judged = λ other. keeps.judged m (x 0) (y 0) stands is
-          ∙ uncut_verdict 0 _ (of.finish m (stream_of (x 0))) (keeps.uncut m (stream_of (x 0)));
+          ∙ verdict_unless_cut 0 _ (of.finish m (stream_of (x 0))) (keeps.never_cut m (stream_of (x 0)));
     }
 
 -- who keeps its rule, and gives at once or at its end, is lawful

@@ -93,14 +93,14 @@ runs None None = (λ is w. cc, λ no. refl)
 runs None (Some Done) = (λ is w. cc, λ no. absurd (no refl))
 runs None (Some Broken) = (λ is w. cc, λ no. absurd (no refl))
 
-unpulled : (held : Option Message) (end : Option End) → wants held end ≢ Pull
-unpulled (Some message) end = λ is. cc
-unpulled None None = λ is. cc
-unpulled None (Some e) = λ is. cc
+never_pulls : (held : Option Message) (end : Option End) → wants held end ≢ Pull
+never_pulls (Some message) end = λ is. cc
+never_pulls None None = λ is. cc
+never_pulls None (Some e) = λ is. cc
 
-uncut : (end : End) → finish_after end ≢ Cut
-uncut Done = λ is. cc
-uncut Broken = λ is. cc
+never_cut : (end : End) → finish_after end ≢ Cut
+never_cut Done = λ is. cc
+never_cut Broken = λ is. cc
 
 passing_keeps : KeepsItsRule passing
 passing_keeps = record {
@@ -111,8 +111,8 @@ passing_keeps = record {
   takes = λ m x y port s w. let all = takes m.held m.end x y port s w in (all.0, all.1);
   hands = λ m x y port s w. hands m.held m.end x y port s w;
   running = λ m x y s. runs m.held m.end;
-  unpulled = λ m x y s. unpulled m.held m.end;
-  uncut = λ m s. uncut s.end;
+  never_pulls = λ m x y s. never_pulls m.held m.end;
+  never_cut = λ m s. never_cut s.end;
   monotone = λ m s t before. before;
 }
 

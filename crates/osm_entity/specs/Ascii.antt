@@ -6,6 +6,10 @@ use Rattle.std.specs.Prelude.{ℕ}
 abbrev pub newline : ℕ
 newline = 10
 
+-- what stands before the newline of a line from Windows
+abbrev pub carriage_return : ℕ
+carriage_return = 13
+
 -- a tab, which parts fields as a space does
 abbrev pub tab : ℕ
 tab = 9
@@ -13,6 +17,10 @@ tab = 9
 -- a space
 abbrev pub space : ℕ
 space = 32
+
+-- the sign before the name of a section that is subtracted
+abbrev pub exclamation_mark : ℕ
+exclamation_mark = 33
 
 -- the sign that begins a comment
 abbrev pub number_sign : ℕ

@@ -58,8 +58,8 @@ pub record KeepsItsRule {M : Type 0} (of : OneInput M) : Type 0 where
   pub hands : (m : M) (x y : List Message) (port : ℕ) → of.stands m x y → of.wanted m ≡ Give port →
       (port ≡ 0) × (has_end y ≡ false)
   pub running : (m : M) (x y : List Message) → of.stands m x y → (of.verdict m ≡ Running) ↔ (of.wanted m ≢ Ended)
-  pub unpulled : (m : M) (x y : List Message) → of.stands m x y → of.wanted m ≢ Pull
-  pub uncut : (m : M) (s : Stream) → of.finish m s ≢ Cut
+  pub never_pulls : (m : M) (x y : List Message) → of.stands m x y → of.wanted m ≢ Pull
+  pub never_cut : (m : M) (s : Stream) → of.finish m s ≢ Cut
   pub monotone : (m : M) → IsMonotone (of.rule m)
 
 -- a machine that doesn't hold takes more only where it gave all items that its rule fixes

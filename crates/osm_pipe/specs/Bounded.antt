@@ -8,7 +8,7 @@ use Rattle.crossbeam_channel.specs.declared.flavors.array.Key.{Key}
 use Rattle.osm_entity.specs.declared.stream.Message.{Message}
 use Rattle.osm_pipe.specs.declared.rule.Hand.{Hand}
 
--- which bounded pipe it is: its two tables, and how many messages it holds at most
+-- which bounded pipe it is: its table, the badge of its key, and how many messages it holds at most
 pub record BoundedId : Type 0 where
   pub table : TableId
   pub key : Badge (Key Message)

@@ -2,11 +2,7 @@
 -- Here all lines stand in one list; the code goes from line to line.
 use Rattle.std.specs.Prelude.{ℕ, ◌-◌, List, [], ◌∷◌, map, length, take, drop, Bool, not, ◌||◌, ◌==◌, nat_lt, if◌then◌else◌}
 use Rattle.std.specs.List.{slice_split, filter, enumerate_from, position_or_len, suffix_len}
-use Rattle.osm_entity.specs.Ascii.{newline, tab, space}
-
--- what ends a line of a text from Windows, before the newline
-abbrev pub carriage_return : ℕ
-carriage_return = 13
+use Rattle.osm_entity.specs.Ascii.{carriage_return, newline, tab, space}
 
 -- a byte that is dropped at both ends of a line: a space, a tab or a carriage return
 abbrev pub is_blank_byte : ℕ → Bool
@@ -42,6 +38,7 @@ said lines = filter (λ line. nat_lt 0 (length line.1)) lines
 abbrev pub said_from : ℕ → List ℕ → List (ℕ × List ℕ)
 said_from first bytes = said (enumerate_from first (poly_lines bytes))
 
--- the lines of a polygon file that aren't empty, after the first, with their numbers from 1
+-- the lines after a polygon file's first, which is its name even where empty: those that aren't empty, with their
+-- numbers from 1
 abbrev pub said_after_name : List ℕ → List (ℕ × List ℕ)
 said_after_name bytes = said (drop 1 (enumerate_from 1 (poly_lines bytes)))

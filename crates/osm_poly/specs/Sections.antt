@@ -1,22 +1,17 @@
 -- Sections of polygon files, from the lines that aren't empty.
 -- Here the lines are cut at once into the parts between END lines; the code reads line after line.
-use Rattle.std.specs.Prelude.{ℕ, List, [], ◌∷◌, length, Bool, not, ◌&&◌, ◌==◌, Option, Some, None, Result, Ok, Err, slice_index}
+use Rattle.std.specs.Prelude.{ℕ, List, [], ◌∷◌, Bool, not, ◌==◌, Option, Some, None, Result, Ok, Err, codes, slice_index}
 use Rattle.std.specs.List.{slice_split}
-use Rattle.osm_entity.specs.Ascii.{capital_d, capital_e, capital_n}
+use Rattle.std.specs.Str.{bytes_eq}
+use Rattle.osm_entity.specs.Ascii.{exclamation_mark}
 use Rattle.osm_entity.specs.declared.parts.Place.{Place}
 use Rattle.osm_area.specs.declared.area.Section.{Section}
 use Rattle.osm_poly.specs.Lines.{said_from}
 use Rattle.osm_poly.specs.Points.{poly_place}
 
--- the sign before the name of a section that is subtracted
-abbrev pub exclamation_mark : ℕ
-exclamation_mark = 33
-
 -- a line that ends a section, or the file
 abbrev pub is_end : List ℕ → Bool
-is_end line =
-    (length line == 3) && (slice_index line 0 == capital_e) && (slice_index line 1 == capital_n) &&
-    (slice_index line 2 == capital_d)
+is_end line = bytes_eq line (codes "END")
 
 -- a section is added unless its name begins with an exclamation mark
 abbrev pub adds : List ℕ → Bool
@@ -50,7 +45,8 @@ with_section add (Err bad) later = Err bad
 with_section add (Ok places) (Ok sections) = Ok (record { add = add; ring = places } ∷ sections)
 with_section add (Ok places) (Err bad) = Err bad
 
--- the sections of the parts between END lines, each a name and points, up to the first part that is empty
+-- the sections of the parts between END lines, each a name and points, up to the first empty part, which an END
+-- follows; else the line after the last is bad
 abbrev pub poly_sections : ℕ → List (List (ℕ × List ℕ)) → Result (List Section) ℕ
 poly_sections end [] = Err end
 poly_sections end ([] ∷ []) = Err end

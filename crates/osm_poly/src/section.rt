@@ -19,7 +19,7 @@ use std::alloc::Global;
 fn ends(line: &[u8]) -> bool
     ensures { result ≡ is_end line.now }
 {
-    line.len() == 3 && line[0] == b'E' && line[1] == b'N' && line[2] == b'D'
+    line == b"END".as_slice()
 }
 
 fn is_added(name: &[u8]) -> bool
@@ -124,10 +124,7 @@ pub(crate) fn read_sections(alloc: Global, bytes: &[u8], first: u64) -> Result<S
             return Ok(sections);
         }
         let mut corners = Sequence::new(alloc);
-        let (after, next) = match read_points(&mut corners, more, number + 1) {
-            Ok(step) => step,
-            Err(error) => return Err(error),
-        };
+        let (after, next) = read_points(&mut corners, more, number + 1)?;
         add_section(alloc, &mut sections, is_added(name), corners)?;
         rest = after;
         at = next;

@@ -16,12 +16,12 @@ pub record TaskRow : Type 0 where
   pub output : Option Flow
   pub options : List OptionName
 
--- a task whose short name differs
+-- the row of a task whose short name differs
 abbrev pub row_with_short : List ℕ → List ℕ → List Flow → Option Flow → List OptionName → TaskRow
 row_with_short name short inputs output options =
     record { name = name; short = short; inputs = inputs; output = output; options = options }
 
--- a task without a short name
+-- the row of a task without a short name: its name stands for it
 abbrev pub row_without_short : List ℕ → List Flow → Option Flow → List OptionName → TaskRow
 row_without_short name inputs output options = row_with_short name name inputs output options
 

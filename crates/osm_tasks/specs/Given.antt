@@ -28,19 +28,19 @@ gives option word =
 abbrev pub value_given : OptionName → List OptionWord → Option (List ℕ)
 value_given option words = option_map (λ word. word.value) (find (gives option) words)
 
--- a number option's value, by what is given
+-- a number option's value by what is given, or its default, where nothing is given or the text says none
 abbrev pub number_by : Values → Option (List ℕ) → ℕ
 number_by (Number least most default) None = default
 number_by (Number least most default) (Some text) = unwrap_or (number_in least most text) default
 number_by values given = 0
 
--- a truth option's value, by what is given
+-- a truth option's value by what is given, or its default, where nothing is given or the text says none
 abbrev pub truth_by : Values → Option (List ℕ) → Bool
 truth_by (Truth default) None = default
 truth_by (Truth default) (Some text) = unwrap_or (truth_in text) default
 truth_by values given = false
 
--- the nanodegrees of an option, by what is given
+-- an option's nanodegrees by what is given, or its default, where nothing is given or the text says none
 abbrev pub degrees_by : Values → Option (List ℕ) → ℤ
 degrees_by (Degrees default) None = default
 degrees_by (Degrees default) (Some text) = unwrap_or (nanodegrees_in text) default
@@ -67,7 +67,7 @@ abbrev pub resolution_said : List OptionWord → Resolution
 resolution_said words =
     unwrap_or (option_and_then resolution_in (value_given ConflictResolutionMethod words)) Version
 
--- what words have a tag filter do
+-- what words have a tag filter do; it accepts nodes where they don't say
 abbrev pub mode_said : List OptionWord → Mode
 mode_said words =
     unwrap_or (option_and_then mode_in (value_given ModeOption words)) (record { accept = true; kind = Node })
@@ -98,7 +98,7 @@ is_port n (Some port) = port == n
 abbrev pub pipe_name : List ℕ → List OptionWord → ℕ → Option (List ℕ)
 pipe_name prefix words n = option_map (λ word. word.value) (find (λ word. is_port n (port_after prefix word)) words)
 
--- the names of the pipes at the first ports, as many as this
+-- the names of the pipes at the first ports, up to this number of them
 abbrev pub pipe_names : List ℕ → List OptionWord → ℕ → List (Option (List ℕ))
 pipe_names prefix words zero = []
 pipe_names prefix words (suc n) = pipe_names prefix words n ++ pipe_name prefix words n ∷ []

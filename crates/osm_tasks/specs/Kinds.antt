@@ -47,7 +47,7 @@ task_of SortChange = sortChange
 abbrev pub inputs_of : TaskKind → List Flow
 inputs_of kind = (task_row (task_of kind)).inputs
 
--- how many streams a kind gives, where it gives any: a tee as many as it has outputs, any other one
+-- how often a kind gives its stream: a tee as often as it has outputs, any other once
 abbrev pub times_given : TaskKind → ℕ
 times_given (Tee flow outputs) = outputs
 times_given kind = 1
@@ -73,7 +73,7 @@ are_degrees z = nat_le (nat_abs z) (1000 * degree)
 abbrev pub is_box : (left right top bottom : ℤ) → Bool
 is_box left right top bottom = int_le left right && int_le bottom top
 
--- each number of a kind is in the range that its row has for it, and its box isn't empty
+-- each number of a kind but a seed is in the range that its row has for it, and its box isn't empty
 abbrev pub is_ranged : TaskKind → Bool
 is_ranged (ReadMade count seed) = is_within 0 10000000 count
 is_ranged (WritePbf file batchlimit usedense omitmetadata granularity) =

@@ -1,4 +1,5 @@
--- The catalogue of options: a row for each, with its name, whether it needs it, whether it is needed, and its values.
+-- The catalogue of options: a row for each, with its name, whether a word without a name gives it, who needs it, and
+-- its values.
 -- Here each option is one row; the code looks up each column by itself.
 use Rattle.std.specs.Prelude.{ℕ, pos, negsuc, List, [], Bool, true, false, Option, Some, None, codes}
 use Rattle.osm_tasks.specs.declared.fault.Needed.{Needed}
@@ -19,7 +20,7 @@ pub record OptionRow : Type 0 where
 abbrev pub main_option : List ℕ → Option Needed → Values → OptionRow
 main_option name needed values = record { name = name; unnamed = true; needed = needed; values = values }
 
--- an option that words give by its name alone, where they like
+-- an option that words give by its name alone, and that no task needs
 abbrev pub named_option : List ℕ → Values → OptionRow
 named_option name values = record { name = name; unnamed = false; needed = None; values = values }
 

@@ -52,12 +52,13 @@ pipe_fault n inputs outputs word =
     if not (names_port inputs outputs word) then Some (UnknownOption n word.word)
     else if length word.value == 0 then Some (BadValue n word.word) else None
 
--- a tag filter takes any other name as the key of a test
+-- whether a task takes any other name as the key of a test: a tag filter does
 abbrev pub tells_tests : TaskName → Bool
 tells_tests TagFilter = true
 tells_tests task = false
 
--- what is wrong with a word that gives an option, or none: it isn't known, it came before, or its value isn't allowed
+-- what is wrong with a word by the option that it gives: it isn't known, but as a test; it came before; or its value
+-- isn't allowed
 abbrev pub given_fault : ℕ → TaskName → List OptionWord → OptionWord → Option OptionName → Option TaskError
 given_fault n task earlier word None =
     if tells_tests task && not (is_unnamed word) then None else Some (UnknownOption n word.word)

@@ -15,7 +15,7 @@ use Rattle.osm_tasks.specs.declared.naming.Values.{Values}
 use Rattle.osm_tasks.specs.declared.naming.Values.TheVariants.{AnyText, Number, Truth, Degrees, Resolving, Filtering, Tracking, Uncompressed, ByTypeThenId}
 use Rattle.osm_tasks.specs.declared.reading.Mode.{Mode}
 
--- the size of a number, where it is in a range
+-- what a number counts, itself or 0 below 0, where that is in a range
 abbrev pub kept_within : (least most : ℕ) → ℤ → Option ℕ
 kept_within least most z = if is_within least most (counted z) then Some (counted z) else None
 
@@ -79,6 +79,6 @@ allows ByTypeThenId text = bytes_eq text (codes "TypeThenId")
 abbrev pub has_leading_zero : List ℕ → Bool
 has_leading_zero text = (slice_index text 0 == digit_zero) && nat_lt 1 (length text)
 
--- the number of a port: digits without leading zeros
+-- the number of a port: digits without leading zeros, up to 4,294,967,295
 abbrev pub port_in : List ℕ → Option ℕ
 port_in text = if has_leading_zero text then None else number_in 0 4294967295 text

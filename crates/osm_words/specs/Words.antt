@@ -43,7 +43,8 @@ is_unnamed option = length option.name == 0
 abbrev pub is_option_named : List ℕ → OptionWord → Bool
 is_option_named name option = bytes_eq option.name name
 
--- what is wrong with an option that is cut at a place: an empty name, or one that an earlier option has
+-- what is wrong with an option by where it is cut: first, an empty name; later, a name that an earlier one has;
+-- nowhere, a second one without a name
 abbrev pub fault_of_cut : ℕ → List OptionWord → List ℕ → Option ℕ → Option WordsError
 fault_of_cut n earlier word None = if list_any is_unnamed earlier then Some (TwoUnnamed n) else None
 fault_of_cut n earlier word (Some at) =

@@ -15,16 +15,15 @@ returns-then-ends-clause-ok c =
 pub loop-step-preserved : goal.loop-step-preserved
 loop-step-preserved c =
     let pushed = c.in_ok-add_section.ensures.ok in
-    let points = c.in-Ok-read_points.ensures in
-    let after = c.in-Ok-read_points.step in
+    let points = c.in_ok-after.ensures in
     record {
       read =
           rw (pushed, c.is_added.ensures)
           (sections-more (c.loop-step.at + length (poly_lines c.loop-step.rest.now))
-          (c.in-Ok.step.2 + 1 + length (poly_lines c.in-Ok.step.1.now)) (after.1 + length (poly_lines after.0.now))
+          (c.in-Ok.step.2 + 1 + length (poly_lines c.in-Ok.step.1.now)) (c.in_ok-after.next + length (poly_lines c.in_ok-after.after.now))
           c.in-Ok.step.2 c.in-Ok.step.0.now c.read_points.new.corners c.loop-step.sections
           (said_from c.loop-step.at c.loop-step.rest.now) (said_from (c.in-Ok.step.2 + 1) c.in-Ok.step.1.now)
-          (said_from after.1 after.0.now)
+          (said_from c.in_ok-after.next c.in_ok-after.after.now)
           (poly_sections (c.args.first + length (poly_lines c.args.bytes.now))
           (parts_from c.args.first c.args.bytes.now)) c.in-Ok.ensures.same points.same
           c.loop-step.invariant.read c.in-Ok.ensures.said
