@@ -8,61 +8,173 @@ use osm_host::{FailAt, Fails, FileHeld, Files, Host, HostError, MemoryHost, Op, 
 use osm_opl::{OplReader, OplWriter};
 use std::alloc::Global;
 use std::process::Abort;
-use std::test::Fail;
 
-/// The copies of `n1 x1.5 y2`, `w5` and `r6`.
-const NODE: &[u8] = b"n1 v0 dV c0 t i0 u T x1.5 y2\n";
+/// How many rows there are.
+const COUNT: u32 = 36;
 
-const NODE_WAY: &[u8] = b"n1 v0 dV c0 t i0 u T x1.5 y2\nw5 v0 dV c0 t i0 u T N\n";
+/// A row for each file and each way to copy it, of two lines, the second of which is the copy. The columns of the first:
+/// what it shows; the file's first bytes, how many `#` follow, and its last bytes; the verdict, its line, up to where
+/// bytes are looked at, and whether the last pull gives nothing; the flow, the limit, which pieces, and the kind and
+/// number of the call that fails. A `/` is a newline, and a blank at the end stands before a `|`.
+const ROWS: &str = "\
+an empty file||0||clean|0|0|idle|entities||any||0
 
-const NODE_WAY_RELATION: &[u8] =
-    b"n1 v0 dV c0 t i0 u T x1.5 y2\nw5 v0 dV c0 t i0 u T N\nr6 v0 dV c0 t i0 u T M\n";
+blank lines and comments|/# n1/ \t/#|0||clean|0|10|idle|entities||any||0
+
+a newline at the end|n1 x1.5 y2/w5/r6/|0||clean|0|17|idle|entities||any||0
+n1 v0 dV c0 t i0 u T x1.5 y2/w5 v0 dV c0 t i0 u T N/r6 v0 dV c0 t i0 u T M/
+no newline at the end|n1 x1.5 y2/w5/r6|0||clean|0|16|idle|entities||any||0
+n1 v0 dV c0 t i0 u T x1.5 y2/w5 v0 dV c0 t i0 u T N/r6 v0 dV c0 t i0 u T M/
+skipped lines|#/n1 x1.5 y2///w5/ /|0||clean|0|20|idle|entities||any||0
+n1 v0 dV c0 t i0 u T x1.5 y2/w5 v0 dV c0 t i0 u T N/
+a bad line|n1 x1.5 y2//w5/q/r6/n/|0||bad field|4|17||entities||any||0
+n1 v0 dV c0 t i0 u T x1.5 y2/w5 v0 dV c0 t i0 u T N/
+a bad first line|n1/n1 x1.5 y2/|0||no place|1|3||entities||any||0
+
+a bad last line|n1 x1.5 y2/q|0||bad field|2|12|idle|entities||any||0
+n1 v0 dV c0 t i0 u T x1.5 y2/
+all within the limit|n1 x1.5 y2/w5/r6/|0||clean|0|17|idle|entities|17|any||0
+n1 v0 dV c0 t i0 u T x1.5 y2/w5 v0 dV c0 t i0 u T N/r6 v0 dV c0 t i0 u T M/
+all but a newline|n1 x1.5 y2/w5/r6/|0||too long|0|17||entities|16|any||0
+n1 v0 dV c0 t i0 u T x1.5 y2/w5 v0 dV c0 t i0 u T N/
+two lines|n1 x1.5 y2/w5/r6/|0||too long|0|15||entities|14|any||0
+n1 v0 dV c0 t i0 u T x1.5 y2/w5 v0 dV c0 t i0 u T N/
+a line and a part|n1 x1.5 y2/w5/r6/|0||too long|0|14||entities|13|any||0
+n1 v0 dV c0 t i0 u T x1.5 y2/
+nothing|n1 x1.5 y2/w5/r6/|0||too long|0|1||entities|0|any||0
+
+an empty file within||0||clean|0|0|idle|entities|0|any||0
+
+an unended line|n1 x1.5 y2/w5|0||clean|0|13|idle|entities|13|any||0
+n1 v0 dV c0 t i0 u T x1.5 y2/w5 v0 dV c0 t i0 u T N/
+a part of an unended line|n1 x1.5 y2/w5|0||too long|0|13||entities|12|any||0
+n1 v0 dV c0 t i0 u T x1.5 y2/
+a bad line within|n1 x1.5 y2/q/w5/|0||bad field|2|13||entities|13|any||0
+n1 v0 dV c0 t i0 u T x1.5 y2/
+a bad line but its newline|n1 x1.5 y2/q/|0||too long|0|13||entities|12|any||0
+n1 v0 dV c0 t i0 u T x1.5 y2/
+the longest line||16777216||clean|0|16777216|idle|entities||long||0
+
+a line behind it||16777216|/n1 x1.5 y2/|clean|0|16777228|idle|entities||long||0
+n1 v0 dV c0 t i0 u T x1.5 y2/
+a byte more||16777217||line too long|1|16777217||entities||long||0
+
+a later line|n1 x1.5 y2/|16777217|/n1 x1.5 y2/|line too long|2|16777228||entities||long||0
+n1 v0 dV c0 t i0 u T x1.5 y2/
+many bytes more||20000000||line too long|1|16777217||entities||long||0
+
+no byte came|n1 x1.5 y2/w5|0||read|0|0|idle|entities||4096|pull|1
+
+the end didn't come|n1 x1.5 y2/w5|0||read|0|13|idle|entities||4096|pull|2
+n1 v0 dV c0 t i0 u T x1.5 y2/
+a newline didn't come|n1 x1.5 y2/w5|0||read|0|10|idle|entities||5|pull|3
+
+a line came|n1 x1.5 y2/w5|0||read|0|13|idle|entities||5|pull|4
+n1 v0 dV c0 t i0 u T x1.5 y2/
+a bad line isn't whole|n1 x1.5 y2/q|0||read|0|12|idle|entities||4096|pull|2
+n1 v0 dV c0 t i0 u T x1.5 y2/
+a bad line came|n1 x1.5 y2/q/w5|0||bad field|2|13||entities||5|pull|4
+n1 v0 dV c0 t i0 u T x1.5 y2/
+a bad line came at once|n1 x1.5 y2/q/w5|0||bad field|2|13||entities||4096|pull|2
+n1 v0 dV c0 t i0 u T x1.5 y2/
+half a line was put|n1 x1.5 y2/w5/r6/|0||running|0|11||entities||1|put|1
+n1 v0 dV c0 t |
+half a line was put at once|n1 x1.5 y2/w5/r6/|0||running|0|17||entities||4096|put|1
+n1 v0 dV c0 t |
+a line and a half were put|n1 x1.5 y2/w5/r6/|0||running|0|17||entities||4096|put|2
+n1 v0 dV c0 t i0 u T x1.5 y2/w5 v0 dV c0
+changes|n1 v1 x0 y0/n1 v2 x0 y0/w5/n1 v3 dD x0 y0/|0||clean|0|42|idle|changes||any||0
+n1 v1 dV c0 t i0 u T x0 y0/n1 v2 dV c0 t i0 u T x0 y0/w5 v0 dV c0 t i0 u T N/n1 v3 dD c0 t i0 u T x0 y0/
+a change in an entity file|n1 v1 x0 y0/n1 v2 x0 y0/w5/n1 v3 dD x0 y0/|0||deleted|4|42||entities||any||0
+n1 v1 dV c0 t i0 u T x0 y0/n1 v2 dV c0 t i0 u T x0 y0/w5 v0 dV c0 t i0 u T N/
+a comment without an end||0|#|clean|0|1|idle|entities||any||0
+
+";
 
 /// More bytes than any file here has.
 const ENOUGH: u64 = 1 << 40;
 
+/// A row by its columns; at 0 no call fails.
+#[derive(Drop)]
+struct Row<'a> {
+    says: &'a str,
+    head: &'a str,
+    count: u64,
+    tail: &'a str,
+    copy: &'a str,
+    verdict: &'a str,
+    line: u64,
+    end: u64,
+    is_idle: bool,
+    flow: Flow,
+    limit: u64,
+    pieces: &'static [u32],
+    fails: Op,
+    nth: u64,
+}
+
+/// The text before the first of a sign; the rest is what is behind it.
+fn cut<'a>(rest: &mut &'a str, sign: char) -> &'a str {
+    match rest.split_once(sign) {
+        Some((first, more)) => {
+            *rest = more;
+            first
+        }
+        None => rest,
+    }
+}
+
+fn number(digits: &str) -> u64 {
+    let mut number = 0_u64;
+    for digit in digits.as_bytes() {
+        number = number
+            .saturating_mul(10)
+            .saturating_add((*digit % 16) as u64);
+    }
+    number
+}
+
+/// Adds a text to bytes, in which a `/` is a newline.
+fn add_text<R: Abort>(rt: &R, bytes: &mut Bytes, text: &str) {
+    for byte in text.as_bytes() {
+        let byte = if *byte == b'/' { b'\n' } else { *byte };
+        bytes.push(byte).expect(rt, "a text");
+    }
+}
+
+fn bytes_of<R: Abort + AllocGlobal>(rt: &R, text: &str) -> Bytes {
+    let mut bytes = Bytes::new(rt.alloc());
+    add_text(rt, &mut bytes, text);
+    bytes
+}
+
+fn text_of<R: Abort + AllocGlobal>(rt: &R, name: &[u8]) -> Text {
+    Text::from_bytes(rt.alloc(), name).expect(rt, "a name")
+}
+
+/// The file of a row.
+fn file_of<R: Abort + AllocGlobal>(rt: &R, row: &Row) -> Bytes {
+    let mut bytes = bytes_of(rt, row.head);
+    for _sign in 0..row.count {
+        bytes.push(b'#').expect(rt, "a sign");
+    }
+    add_text(rt, &mut bytes, row.tail);
+    bytes
+}
+
 /// How many bytes a source gives at most in one pull.
-const PIECES: &[u32] = &[1, 2, 3, 5, 7, 16, 4096];
-
-const LONG_PIECES: &[u32] = &[4096, 65_536];
-
-const AT_ONCE: &[u32] = &[4096];
-
-const FIVES: &[u32] = &[5];
-
-const ONES: &[u32] = &[1];
-
-/// A call that fails: of which kind, on which file, and which one of them, from 1.
-type Failing = (Op, &'static [u8], u64);
-
-/// No call fails.
-const NONE: Failing = (Op::Pull, b"a", 0);
-
-/// What is shown, and a file: its first bytes, how many `#` follow, and its last bytes.
-type File<'a> = (&'a str, &'a [u8], usize, &'a [u8]);
-
-/// How a file is copied: its flow, the limit, the pieces, and the call that fails.
-type How<'a> = (Flow, u64, &'a [u32], Failing);
-
-/// The copy, the verdict, whether the last pull gave nothing, and up to where bytes are looked at.
-type Gives<'a> = (&'a [u8], Verdict, bool, u64);
-
-/// What came of a copy: how many pulls were made or why a put failed, the copy, and the reader.
-type Copied = (Result<u64, HostError>, Bytes, OplReader);
-
-/// A host with the one file `a`.
-fn host_of(alloc: Global, bytes: &[u8], piece: u32, fails: Failing) -> Result<MemoryHost, Fail>
-    requires { 0 < piece }
-{
-    let mut files = Files::new(alloc);
-    let name = Text::from_bytes(alloc, b"a")?;
-    let bytes = Bytes::from_slice(alloc, bytes)?;
-    files.push(FileHeld { name, bytes })?;
-    let mut all = Fails::new(alloc);
-    let (op, file, nth) = fails;
-    let name = Text::from_bytes(alloc, file)?;
-    all.push(FailAt { name, op, nth })?;
-    Ok(MemoryHost::new(alloc, files, piece, all, false)?)
+fn pieces_of(name: &str) -> &'static [u32] {
+    if name == "any" {
+        &[1, 2, 3, 5, 7, 16, 4096]
+    } else if name == "long" {
+        &[4096, 65_536]
+    } else if name == "5" {
+        &[5]
+    } else if name == "1" {
+        &[1]
+    } else {
+        &[4096]
+    }
 }
 
 /// Puts all items that the reader has.
@@ -96,157 +208,155 @@ fn copy_items<S: Source, K: Sink>(
     Ok(ENOUGH)
 }
 
-/// Copies `a` to `b`.
-fn copy_file(alloc: Global, mut host: MemoryHost, flow: Flow, limit: u64) -> Result<Copied, Fail> {
-    let b = Text::from_bytes(alloc, b"b")?;
-    let mut source = host.open_source(&Text::from_bytes(alloc, b"a")?)?;
-    let mut sink = host.open_sink(&b)?;
-    let mut reader = OplReader::new(alloc, flow, limit)?;
-    let writer = OplWriter::new(alloc, flow)?;
-    let pulls = copy_items(&mut reader, &mut source, &mut sink, writer);
-    host.keep(&b, sink)?;
-    let mut copy = Bytes::new(alloc);
-    if let Some(file) = host.files().as_slice().iter().find(|file| file.name.is(&b)) {
-        copy.append(file.bytes.as_slice())?;
+/// A row of its two lines.
+fn row_of<'a>(line: &'a str, copy: &'a str) -> Row<'a> {
+    let mut rest = line;
+    let mut copy = copy;
+    let says = cut(&mut rest, '|');
+    let head = cut(&mut rest, '|');
+    let count = number(cut(&mut rest, '|'));
+    let tail = cut(&mut rest, '|');
+    let verdict = cut(&mut rest, '|');
+    let line = number(cut(&mut rest, '|'));
+    let end = number(cut(&mut rest, '|'));
+    let is_idle = cut(&mut rest, '|') == "idle";
+    let flow = flow_of(cut(&mut rest, '|'));
+    let limit = limit_of(cut(&mut rest, '|'));
+    let pieces = pieces_of(cut(&mut rest, '|'));
+    let fails = op_of(cut(&mut rest, '|'));
+    Row {
+        says,
+        head,
+        count,
+        tail,
+        copy: cut(&mut copy, '|'),
+        verdict,
+        line,
+        end,
+        is_idle,
+        flow,
+        limit,
+        pieces,
+        fails,
+        nth: number(rest),
     }
-    Ok((pulls, copy, reader))
 }
 
-/// The last pull that gives something gives the last byte that is looked at.
-fn check<R: Abort + AllocGlobal>(
-    rt: &R,
-    file: File,
-    how: How,
-    gives: Gives,
-    piece: u32,
-) -> Result<(), Fail>
+fn flow_of(name: &str) -> Flow {
+    if name == "changes" {
+        Flow::Changes
+    } else {
+        Flow::Entities
+    }
+}
+
+fn limit_of(digits: &str) -> u64 {
+    if digits == "" { ENOUGH } else { number(digits) }
+}
+
+fn op_of(name: &str) -> Op {
+    if name == "put" { Op::Put } else { Op::Pull }
+}
+
+/// A verdict by its name and its line.
+fn told(verdict: Verdict) -> (&'static str, u64) {
+    match verdict {
+        Verdict::Running => ("running", 0),
+        Verdict::Clean => ("clean", 0),
+        Verdict::TooLong => ("too long", 0),
+        Verdict::Read => ("read", 0),
+        Verdict::Input {
+            cause,
+            spot: Spot::Line(line),
+        } => (cause_name(cause), line),
+        _ => ("other", 0),
+    }
+}
+
+fn cause_name(cause: Cause) -> &'static str {
+    match cause {
+        Cause::BadField => "bad field",
+        Cause::NoPlace => "no place",
+        Cause::LineTooLong => "line too long",
+        Cause::Deleted => "deleted",
+        _ => "other",
+    }
+}
+
+/// A host with the file of a row as `a`.
+fn host_of<R: Abort + AllocGlobal>(rt: &R, row: &Row, bytes: Bytes, piece: u32) -> MemoryHost
     requires { 0 < piece }
 {
-    let (says, head, count, tail) = file;
-    let (flow, limit, _, fails) = how;
-    let (copy, verdict, is_idle, end) = gives;
-    let mut bytes = Bytes::from_slice(rt.alloc(), head)?;
-    bytes.append(vec![in rt.alloc(); b'#'; count]?.as_slice())?;
-    bytes.append(tail)?;
-    let host = host_of(rt.alloc(), bytes.as_slice(), piece, fails)?;
-    let (pulls, copied, reader) = copy_file(rt.alloc(), host, flow, limit)?;
-    let full = end.div_ceil(piece as u64);
-    let all = full.saturating_add(is_idle as u64);
-    let given = full.saturating_mul(piece as u64).min(bytes.len() as u64);
-    let ran = if fails.0 == Op::Put {
-        Err(HostError::Failed)
+    let mut files = Files::new(rt.alloc());
+    let name = text_of(rt, b"a");
+    files.push(FileHeld { name, bytes }).expect(rt, "a file");
+    let mut all = Fails::new(rt.alloc());
+    let name = text_of(rt, if row.fails == Op::Put { b"b" } else { b"a" });
+    let (op, nth) = (row.fails, row.nth);
+    all.push(FailAt { name, op, nth }).expect(rt, "a call");
+    MemoryHost::new(rt.alloc(), files, piece, all, false).expect(rt, "a host")
+}
+
+/// Copies `a` of a host to `b`: how many pulls were made, or 0 where a put failed, and the reader.
+fn copy_file<R: Abort + AllocGlobal>(rt: &R, host: &mut MemoryHost, row: &Row) -> (u64, OplReader) {
+    let b = text_of(rt, b"b");
+    let mut source = host.open_source(&text_of(rt, b"a")).expect(rt, "a source");
+    let mut sink = host.open_sink(&b).expect(rt, "a sink");
+    let mut reader = OplReader::new(rt.alloc(), row.flow, row.limit).expect(rt, "a reader");
+    let writer = OplWriter::new(rt.alloc(), row.flow).expect(rt, "a writer");
+    let pulls = copy_items(&mut reader, &mut source, &mut sink, writer);
+    host.keep(&b, sink).expect(rt, "a keep");
+    (pulls.unwrap_or(0), reader)
+}
+
+/// Copies the file of a row as its source cuts it: the last pull that gives something gives the last byte that is looked
+/// at.
+fn check<R: Abort + AllocGlobal>(rt: &R, row: &Row, piece: u32)
+    requires { 0 < piece }
+{
+    let bytes = file_of(rt, row);
+    let length = bytes.len() as u64;
+    let mut host = host_of(rt, row, bytes, piece);
+    let (pulls, reader) = copy_file(rt, &mut host, row);
+    let full = row.end.div_ceil(piece as u64);
+    let given = full.saturating_mul(piece as u64).min(length);
+    let makes = if row.fails == Op::Put {
+        0
     } else {
-        Ok(all)
+        full.saturating_add(row.is_idle as u64)
     };
-    let came = (
-        pulls,
-        reader.verdict(),
-        reader.given(),
-        reader.reached_end(),
-    );
-    let reached_end = is_idle && verdict != Verdict::Read;
-    assert_eq!(rt; copied.as_slice(), copy, "{says}, in {piece}");
-    assert_eq!(rt;
-        came,
-        (ran, verdict, given, reached_end),
-        "{says}, in {piece}"
-    );
-    Ok(())
+    let is_right = is_held(&host, bytes_of(rt, row.copy).as_slice())
+        && is_told(reader.verdict(), row)
+        && reader.given() == given
+        && reader.reached_end() == (row.is_idle && row.verdict != "read")
+        && pulls == makes;
+    assert!(rt; is_right, "{}, in {piece}", row.says);
 }
 
-/// A copy up to this limit.
-fn within(limit: u64) -> How<'static> {
-    (Flow::Entities, limit, PIECES, NONE)
+/// Whether the verdict is that of the row.
+fn is_told(verdict: Verdict, row: &Row) -> bool {
+    let (name, line) = told(verdict);
+    name == row.verdict && line == row.line
 }
 
-/// A copy of which this pull fails.
-fn fails_at(pieces: &'static [u32], nth: u64) -> How<'static> {
-    (Flow::Entities, ENOUGH, pieces, (Op::Pull, b"a", nth))
-}
-
-/// A copy of which this put fails.
-fn refuses_at(pieces: &'static [u32], nth: u64) -> How<'static> {
-    (Flow::Entities, ENOUGH, pieces, (Op::Put, b"b", nth))
-}
-
-/// Checks a copy however the source cuts its bytes.
-fn check_all<R: Abort + AllocGlobal>(
-    rt: &R,
-    file: File,
-    how: How,
-    gives: Gives,
-    pieces: &[u32],
-) -> Result<(), Fail> {
-    for piece in pieces {
-        check(rt, file, how, gives, (*piece).max(1))?;
+/// Whether `b` of the host holds just these bytes.
+fn is_held(host: &MemoryHost, bytes: &[u8]) -> bool {
+    for file in host.files().as_slice() {
+        if file.name.as_slice() == b"b".as_slice() {
+            return file.bytes.as_slice() == bytes;
+        }
     }
-    Ok(())
-}
-
-fn bad(cause: Cause, line: u64) -> Verdict {
-    let spot = Spot::Line(line);
-    Verdict::Input { cause, spot }
+    false
 }
 
 #[test]
-#[rattlefmt::skip]
-fn a_file_is_copied_however_its_source_cuts_it_up_to_what_stops_it(rt: HostRuntime) -> Result<(), Fail> {
-    let (none, all) = (b"".as_slice(), NODE_WAY_RELATION);
-    let (file, unended) = (b"n1 x1.5 y2\nw5\nr6\n".as_slice(), b"n1 x1.5 y2\nw5".as_slice());
-    let faulty = b"n1 x1.5 y2\nq\nw5".as_slice();
-    let changes = b"n1 v1 x0 y0\nn1 v2 x0 y0\nw5\nn1 v3 dD x0 y0\n".as_slice();
-    let changed = b"n1 v1 dV c0 t i0 u T x0 y0\nn1 v2 dV c0 t i0 u T x0 y0\nw5 v0 dV c0 t i0 u T N\nn1 v3 dD c0 t i0 u T x0 y0\n".as_slice();
-    let next = b"\nn1 x1.5 y2\n".as_slice();
-    let (half, more) = (b"n1 v0 dV c0 t ".as_slice(), b"n1 v0 dV c0 t i0 u T x1.5 y2\nw5 v0 dV c0".as_slice());
-    let (running, clean, read, too_long) = (Verdict::Running, Verdict::Clean, Verdict::Read, Verdict::TooLong);
-    let flow = Flow::Entities;
-    let any = (flow, ENOUGH, PIECES, NONE);
-    let long = (flow, ENOUGH, LONG_PIECES, NONE);
-    let rows: [(File, How, Gives); 36] = [
-        (("an empty file", none, 0, none), any, (none, clean, true, 0)),
-        (("blank lines and comments", b"\n# n1\n \t\n#", 0, none), any, (none, clean, true, 10)),
-        (("a newline at the end", file, 0, none), any, (all, clean, true, 17)),
-        (("no newline at the end", b"n1 x1.5 y2\nw5\nr6", 0, none), any, (all, clean, true, 16)),
-        (("skipped lines", b"#\nn1 x1.5 y2\n\n\nw5\n \n", 0, none), any, (NODE_WAY, clean, true, 20)),
-        (("a bad line", b"n1 x1.5 y2\n\nw5\nq\nr6\nn\n", 0, none), any, (NODE_WAY, bad(Cause::BadField, 4), false, 17)),
-        (("a bad first line", b"n1\nn1 x1.5 y2\n", 0, none), any, (none, bad(Cause::NoPlace, 1), false, 3)),
-        (("a bad last line", b"n1 x1.5 y2\nq", 0, none), any, (NODE, bad(Cause::BadField, 2), true, 12)),
-
-        (("all within the limit", file, 0, none), within(17), (all, clean, true, 17)),
-        (("all but a newline", file, 0, none), within(16), (NODE_WAY, too_long, false, 17)),
-        (("two lines", file, 0, none), within(14), (NODE_WAY, too_long, false, 15)),
-        (("a line and a part", file, 0, none), within(13), (NODE, too_long, false, 14)),
-        (("nothing", file, 0, none), within(0), (none, too_long, false, 1)),
-        (("an empty file within", none, 0, none), within(0), (none, clean, true, 0)),
-        (("an unended line", unended, 0, none), within(13), (NODE_WAY, clean, true, 13)),
-        (("a part of an unended line", unended, 0, none), within(12), (NODE, too_long, false, 13)),
-        (("a bad line within", b"n1 x1.5 y2\nq\nw5\n", 0, none), within(13), (NODE, bad(Cause::BadField, 2), false, 13)),
-        (("a bad line but its newline", b"n1 x1.5 y2\nq\n", 0, none), within(12), (NODE, too_long, false, 13)),
-
-        (("the longest line", none, 16_777_216, none), long, (none, clean, true, 16_777_216)),
-        (("a line behind it", none, 16_777_216, next), long, (NODE, clean, true, 16_777_228)),
-        (("a byte more", none, 16_777_217, none), long, (none, bad(Cause::LineTooLong, 1), false, 16_777_217)),
-        (("a later line", b"n1 x1.5 y2\n", 16_777_217, next), long, (NODE, bad(Cause::LineTooLong, 2), false, 16_777_228)),
-        (("many bytes more", none, 20_000_000, none), long, (none, bad(Cause::LineTooLong, 1), false, 16_777_217)),
-
-        (("no byte came", unended, 0, none), fails_at(AT_ONCE, 1), (none, read, true, 0)),
-        (("the end didn't come", unended, 0, none), fails_at(AT_ONCE, 2), (NODE, read, true, 13)),
-        (("a newline didn't come", unended, 0, none), fails_at(FIVES, 3), (none, read, true, 10)),
-        (("a line came", unended, 0, none), fails_at(FIVES, 4), (NODE, read, true, 13)),
-        (("a bad line isn't whole", &faulty[..12], 0, none), fails_at(AT_ONCE, 2), (NODE, read, true, 12)),
-        (("a bad line came", faulty, 0, none), fails_at(FIVES, 4), (NODE, bad(Cause::BadField, 2), false, 13)),
-        (("a bad line came at once", faulty, 0, none), fails_at(AT_ONCE, 2), (NODE, bad(Cause::BadField, 2), false, 13)),
-
-        (("half a line was put", file, 0, none), refuses_at(ONES, 1), (half, running, false, 11)),
-        (("half a line was put at once", file, 0, none), refuses_at(AT_ONCE, 1), (half, running, false, 17)),
-        (("a line and a half were put", file, 0, none), refuses_at(AT_ONCE, 2), (more, running, false, 17)),
-
-        (("changes", changes, 0, none), (Flow::Changes, ENOUGH, PIECES, NONE), (changed, clean, true, 42)),
-        (("a change in an entity file", changes, 0, none), any, (&changed[..77], bad(Cause::Deleted, 4), false, 42)),
-        (("a comment without an end", none, 0, b"#"), any, (none, clean, true, 1)),
-    ];
-    for (file, how, gives) in rows {
-        check_all(&rt, file, how, gives, how.2)?;
+fn a_file_is_copied_however_its_source_cuts_it_up_to_what_stops_it(rt: HostRuntime) {
+    let mut rest = ROWS;
+    for _row in 0..COUNT {
+        let line = cut(&mut rest, '\n');
+        let row = row_of(line, cut(&mut rest, '\n'));
+        for piece in row.pieces {
+            check(&rt, &row, (*piece).max(1));
+        }
     }
-    Ok(())
 }

@@ -1,15 +1,14 @@
 //! Runs on hosts in memory, one to a row: what `b` holds, the fault, and the entry of the reader.
-ghost use Rattle.std.specs.Prelude.{◌≡◌, ◌≢◌, ◌<◌, IfOk};
+ghost use Rattle.std.specs.Prelude.{◌≡◌, ◌≢◌, ◌<◌};
 ghost use Rattle.std.specs.List.{AllPairs};
 
-use osm_entity::{Bytes, Cause, NoMemory, Sequence, Spot, Steps, Text, TextError};
+use osm_entity::{Bytes, Cause, Sequence, Spot, Steps, Text};
 use osm_host::{FailAt, Fails, FileHeld, Files, Host, MemoryHost, Op};
 use osm_run::{DeviceCall, Fault, SourceEnd, Status, run_alone};
 use std::alloc::Global;
 use std::marker::Brand;
 use std::process::Abort;
 use std::sync::ledger::{Blank, Ledger};
-use std::test::Fail;
 
 /// The words of a copy from `a` to `b`.
 const COPY: [&[u8]; 4] = [b"--read-opl", b"file=a", b"--write-opl", b"file=b"];
@@ -143,54 +142,53 @@ fn rows() -> [Row; 28] {
     ]
 }
 
-fn text(alloc: Global, bytes: &[u8]) -> Result<Text, NoMemory>
-    ensures { IfOk result (λ t. t ≡ bytes.now) }
+fn text<R: Abort + AllocGlobal>(rt: &R, bytes: &[u8]) -> Text
+    ensures { result ≡ bytes.now }
 {
-    match Text::from_bytes(alloc, bytes) {
-        Ok(text) => Ok(text),
-        Err(TextError::Memory) | Err(TextError::BadText) => Err(NoMemory),
-    }
+    Text::from_bytes(rt.alloc(), bytes).expect(rt, "a text")
 }
 
-fn words_of(alloc: Global, words: &[&[u8]]) -> Result<Sequence<Text>, NoMemory> {
-    let mut texts = Sequence::new(alloc);
+fn words_of<R: Abort + AllocGlobal>(rt: &R, words: &[&[u8]]) -> Sequence<Text> {
+    let mut texts = Sequence::new(rt.alloc());
     for word in words {
-        texts.push(text(alloc, word)?)?;
+        texts.push(text(rt, word)).expect(rt, "a word");
     }
-    Ok(texts)
+    texts
+}
+
+/// A file of a part as often as it stands there.
+fn file_of<R: Abort + AllocGlobal>(rt: &R, name: &[u8], content: Content) -> FileHeld
+    ensures { result.name ≡ name.now }
+{
+    let (part, times) = content;
+    let mut bytes = Bytes::new(rt.alloc());
+    for _turn in 0..times {
+        bytes.append(part).expect(rt, "a file");
+    }
+    let name = text(rt, name);
+    FileHeld { name, bytes }
 }
 
 /// The files `a`, where it is there, and `b` with what it holds before.
-fn files_of(alloc: Global, a: Content) -> Result<Files, NoMemory>
-    ensures { IfOk result (λ files. AllPairs (λ f g. f.name ≢ g.name) files) }
+fn files_of<R: Abort + AllocGlobal>(rt: &R, a: Content) -> Files
+    ensures { AllPairs (λ f g. f.name ≢ g.name) result }
 {
-    let (part, times) = a;
-    let b = FileHeld {
-        name: text(alloc, b"b")?,
-        bytes: Bytes::from_slice(alloc, BEFORE)?,
-    };
-    let mut files = Files::new(alloc);
-    files.push(b)?;
-    if times > 0 {
-        let mut bytes = Bytes::new(alloc);
-        for _turn in 0..times {
-            bytes.append(part)?;
-        }
-        let a = FileHeld {
-            name: text(alloc, b"a")?,
-            bytes,
-        };
-        files.push(a)?;
+    let mut files = Files::new(rt.alloc());
+    files
+        .push(file_of(rt, b"b", (BEFORE, 1)))
+        .expect(rt, "a file");
+    if a.1 > 0 {
+        files.push(file_of(rt, b"a", a)).expect(rt, "a file");
     }
-    Ok(files)
+    files
 }
 
-fn fails_of(alloc: Global, fails: Failing) -> Result<Fails, NoMemory> {
+fn fails_of<R: Abort + AllocGlobal>(rt: &R, fails: Failing) -> Fails {
     let (name, op, nth) = fails;
-    let mut all = Fails::new(alloc);
-    let name = text(alloc, name)?;
-    all.push(FailAt { name, op, nth })?;
-    Ok(all)
+    let mut all = Fails::new(rt.alloc());
+    let name = text(rt, name);
+    all.push(FailAt { name, op, nth }).expect(rt, "a call");
+    all
 }
 
 /// Runs the words on a host, with a count of steps of its own.
@@ -222,38 +220,42 @@ fn held(host: &MemoryHost) -> Option<&[u8]> {
     None
 }
 
-fn check(rt: &(impl Abort + AllocGlobal), row: Row, piece: u32) -> Result<(), Fail>
+/// Whether the reader's entry is this, and there is none where this is.
+fn has_end(status: &Status, end: Option<(u64, bool)>) -> bool {
+    let entries = status.ends.as_slice();
+    match end {
+        Some((given, clean)) => entries
+            == [SourceEnd {
+                task: 0,
+                given,
+                clean,
+            }]
+            .as_slice(),
+        None => entries.is_empty(),
+    }
+}
+
+fn check<R: Abort + AllocGlobal>(rt: &R, row: Row, piece: u32)
     requires { 0 < piece }
 {
     let (says, words, a, _, fails, b, fault, end) = row;
-    let alloc = rt.alloc();
-    let files = files_of(alloc, a)?;
-    let mut host = MemoryHost::new(alloc, files, piece, fails_of(alloc, fails)?, true)?;
-    let words = words_of(alloc, &words)?;
-    let status = run_on(alloc, words.as_slice(), &mut host);
-    assert_eq!(rt; held(&host), Some(b), "{says}");
+    let files = files_of(rt, a);
+    let fails = fails_of(rt, fails);
+    let mut host = MemoryHost::new(rt.alloc(), files, piece, fails, true).expect(rt, "a host");
+    let words = words_of(rt, &words);
+    let status = run_on(rt.alloc(), words.as_slice(), &mut host);
     assert_eq!(rt; status.fault, fault, "{says}");
-    let entries = status.ends.as_slice();
-    if let Some((given, clean)) = end {
-        let task = 0;
-        assert_eq!(rt;
-            entries,
-            [SourceEnd { task, given, clean }].as_slice(),
-            "{says}"
-        );
-    } else {
-        assert_eq!(rt; entries.len(), 0, "{says}");
-    }
-    assert_eq!(rt; host.said().len(), 0, "{says}");
-    Ok(())
+    let is_right = held(&host) == Some(b)
+        && has_end(&status, end)
+        && host.said().as_slice().is_empty();
+    assert!(rt; is_right, "{says}");
 }
 
 #[test]
-fn runs_are_as_their_rows_say(rt: HostRuntime) -> Result<(), Fail> {
+fn runs_are_as_their_rows_say(rt: HostRuntime) {
     for row in rows() {
         for piece in [row.3.0, row.3.1] {
-            check(&rt, row, piece.max(1))?;
+            check(&rt, row, piece.max(1));
         }
     }
-    Ok(())
 }

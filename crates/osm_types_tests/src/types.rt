@@ -1,13 +1,9 @@
 //! What no clause says: that the calls answer where memory is there, and which order is meant.
-use osm_entity::{
-    Act, Body, Bytes, Entity, Item, Key, Kind, NoMemory, Refs, Tags, Text, TextError, weight,
-};
-use std::alloc::Global;
-use std::test::Fail;
+use osm_entity::{Act, Body, Bytes, Entity, Item, Key, Kind, Refs, Tags, Text, weight};
+use std::process::Abort;
 
 #[test]
-fn every_call_answers_where_memory_is_there(rt: HostRuntime) -> Result<(), Fail> {
-    let alloc = rt.alloc();
+fn every_call_answers_where_memory_is_there(rt: HostRuntime) {
     let rising = [
         (Kind::Node, i64::MIN),
         (Kind::Node, -1),
@@ -19,10 +15,9 @@ fn every_call_answers_where_memory_is_there(rt: HostRuntime) -> Result<(), Fail>
     for pair in rising.windows(2) {
         assert!(rt; rises(pair[0], pair[1]));
     }
-    assert!(rt; texts_hold(alloc)?);
-    assert!(rt; lists_hold(alloc)?);
-    assert!(rt; items_hold(alloc)?);
-    Ok(())
+    assert!(rt; texts_hold(&rt));
+    assert!(rt; lists_hold(&rt));
+    assert!(rt; items_hold(&rt));
 }
 
 fn rises(first: (Kind, i64), second: (Kind, i64)) -> bool {
@@ -37,38 +32,36 @@ fn rises(first: (Kind, i64), second: (Kind, i64)) -> bool {
     first.is_before(&second) && !second.is_before(&first) && !first.is_before(&first)
 }
 
-fn texts_hold(alloc: Global) -> Result<bool, TextError> {
-    let Ok(few) = Text::from_bytes(alloc, b"addr:interpolation:num") else {
-        return Ok(false);
-    };
-    let text = Text::from_bytes(
-        alloc,
-        "na\u{ef}ve \u{20ac} \u{1f5fa} \u{20ac}\u{20ac}".as_bytes(),
-    )?;
-    let Ok(copy) = text.copy(alloc) else {
-        return Ok(false);
-    };
-    let Ok(known) = Text::from_utf8(alloc, copy.as_slice()) else {
-        return Ok(false);
-    };
-    Ok(known.is(&text) && !known.is(&few) && Text::new(alloc).as_slice().is_empty())
+fn text<R: Abort + AllocGlobal>(rt: &R, bytes: &[u8]) -> Text {
+    Text::from_bytes(rt.alloc(), bytes).expect(rt, "a text")
 }
 
-fn lists_hold(alloc: Global) -> Result<bool, NoMemory> {
-    let mut bytes = Bytes::with_room(alloc, 2)?;
-    bytes.append(b"node")?;
-    bytes.push(b's')?;
+fn texts_hold<R: Abort + AllocGlobal>(rt: &R) -> bool {
+    let few = text(rt, b"addr:interpolation:num");
+    let many = text(
+        rt,
+        "na\u{ef}ve \u{20ac} \u{1f5fa} \u{20ac}\u{20ac}".as_bytes(),
+    );
+    let copy = many.copy(rt.alloc()).expect(rt, "a copy");
+    let known = Text::from_utf8(rt.alloc(), copy.as_slice()).expect(rt, "a known text");
+    known.is(&many) && !known.is(&few) && Text::new(rt.alloc()).as_slice().is_empty()
+}
+
+fn lists_hold<R: Abort + AllocGlobal>(rt: &R) -> bool {
+    let mut bytes = Bytes::with_room(rt.alloc(), 2).expect(rt, "room");
+    bytes.append(b"node").expect(rt, "bytes");
+    bytes.push(b's').expect(rt, "a byte");
     let last = bytes.pop();
     bytes.truncate(2);
     bytes.set(0, b'g');
     bytes.reverse();
     let all = bytes.len();
     bytes.retain(|byte| *byte == b'g');
-    let kept = Bytes::from_slice(alloc, b"g")?;
-    Ok(last == Some(b's') && all == 2 && bytes.as_slice() == kept.as_slice())
+    let kept = Bytes::from_slice(rt.alloc(), b"g").expect(rt, "a list");
+    last == Some(b's') && all == 2 && bytes.as_slice() == kept.as_slice()
 }
 
-fn items_hold(alloc: Global) -> Result<bool, NoMemory> {
+fn items_hold<R: Abort + AllocGlobal>(rt: &R) -> bool {
     let way = Item {
         act: Act::Delete,
         entity: Entity {
@@ -77,13 +70,13 @@ fn items_hold(alloc: Global) -> Result<bool, NoMemory> {
             time: 5,
             changeset: 6,
             uid: 7,
-            user: Text::new(alloc),
-            tags: Tags::new(alloc),
-            body: Body::Way(Refs::new(alloc)),
+            user: Text::new(rt.alloc()),
+            tags: Tags::new(rt.alloc()),
+            body: Body::Way(Refs::new(rt.alloc())),
         },
     };
     way.held();
-    let copy = way.copy(alloc)?;
+    let copy = way.copy(rt.alloc()).expect(rt, "a copy");
     let same = copy.key() == way.key() && copy.act == Act::Delete && copy.entity.changeset == 6;
-    Ok(same && weight(&copy.entity) == 128)
+    same && weight(&copy.entity) == 128
 }
