@@ -105,8 +105,8 @@ fn files_say_what_the_tables_say(rt: HostRuntime) -> Result<(), Fail> {
     for (lon, lat, inside) in corners {
         assert_eq!(rt; area.contains(&Place { lon, lat }), inside);
     }
-    for (unit, file, places) in RINGS {
-        assert!(rt; all_hold(alloc, unit, file, places));
+    for (unit, file, places) in &RINGS {
+        assert!(rt; all_hold(alloc, *unit, file, places));
     }
     Ok(())
 }
