@@ -1,5 +1,6 @@
 pub mod ParityLemmas
 pub mod PathLemmas
 pub mod SectionLemmas
-pub mod BandLemmas
+pub mod SideLemmas
+pub mod BoundsLemmas
 pub mod RingLemmas

@@ -68,7 +68,7 @@ last_from place [] = place
 last_from place (next ∷ rest) = last_from next rest
 
 -- it is the one at the end
-last_from-is : (place : Place) (rest : List Place) (d : Place) →
+pub last_from-is : (place : Place) (rest : List Place) (d : Place) →
     last_from place rest ≡ get_or (place ∷ rest) (length rest) d
 unfolding last_from
 last_from-is place [] d = refl
@@ -118,3 +118,8 @@ last_from-append place (next ∷ rest) end = last_from-append next rest end
 pub last_from-one : (place : Place) → last_from place [] ≡ place
 unfolding last_from
 last_from-one place = refl
+
+-- a path of more places ends where the others do
+pub last_from-next : (place next : Place) (rest : List Place) → last_from place (next ∷ rest) ≡ last_from next rest
+unfolding last_from
+last_from-next place next rest = refl

@@ -5,7 +5,7 @@ use Rattle.std.specs.List.{count_by}
 use Rattle.std.proofs.lemmas.List.{append-nil, reverse-append}
 use Rattle.osm_entity.specs.declared.parts.Place.{Place}
 use Rattle.osm_area.specs.Edges.{counts, counts_upward, is_odd, steps}
-use Rattle.osm_area.specs.Rings.{edges, is_in_ring}
+use Rattle.osm_area.specs.Rings.{is_in_ring}
 use Rattle.osm_area.proofs.ParityLemmas.{count_by-first, count_by-more, one_if}
 use Rattle.osm_area.proofs.PathLemmas.{last_from, last_from-append, last_from-one, steps-more}
 

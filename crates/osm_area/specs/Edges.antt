@@ -21,6 +21,10 @@ abbrev pub is_west : Place → Place → Place → Bool
 is_west low high place =
     int_lt ((place.lon -ℤ low.lon) *ℤ (high.lat -ℤ low.lat)) ((place.lat -ℤ low.lat) *ℤ (high.lon -ℤ low.lon))
 
+-- of two places the second is further east
+abbrev pub lies_east : Place → Place → Bool
+lies_east place east = int_lt place.lon east.lon
+
 -- an edge from a lower place up to a higher one counts for a place that it passes to the east
 abbrev pub counts_upward : Place → Place → Place → Bool
 counts_upward low high place = passes_upward low high place && is_west low high place

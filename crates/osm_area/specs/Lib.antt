@@ -1,4 +1,4 @@
 pub mod Edges
-pub mod Bands
+pub mod Bounds
 pub mod Rings
 pub mod Areas

@@ -3,6 +3,7 @@ ghost use Rattle.std.specs.Prelude.{◌≡◌, ◌&&◌};
 ghost use Rattle.osm_area.specs.Areas.{holds, sections_hold};
 ghost use Rattle.osm_area.specs.Edges.{lies_between};
 
+use crate::bounds::is_between;
 use crate::ring::Ring;
 use osm_entity::{Place, Sequence};
 
@@ -26,12 +27,6 @@ pub enum Area {
         bottom: i64,
     },
     Rings(Sections),
-}
-
-fn is_between(low: &i64, value: &i64, high: &i64) -> bool
-    ensures { result ≡ lies_between low.now value.now high.now }
-{
-    *low <= *value && *value <= *high
 }
 
 fn box_holds(left: &i64, right: &i64, top: &i64, bottom: &i64, place: &Place) -> bool

@@ -1,9 +1,9 @@
 //! Edges of a ring, and how many of them count for a place: those that pass its latitude further
 //! east. From its lower end to its upper end an edge passes each latitude but the last, so that
 //! two edges that meet at a corner never pass its latitude both or neither where one goes on.
-ghost use Rattle.std.specs.Prelude.{◌≡◌, ◌<◌, ◌≤◌, ◌*◌, ◌^◌, ◌-ℤ◌, ◌*ℤ◌, IsTrue, unsigned_abs};
+ghost use Rattle.std.specs.Prelude.{◌≡◌, ◌<◌, ◌≤◌, ◌*◌, ◌^◌, ◌-ℤ◌, ◌*ℤ◌, true, int_le, IsTrue, unsigned_abs};
 ghost use Rattle.std.specs.List.{count_by, list_all};
-ghost use Rattle.osm_area.specs.Edges.{counts, counts_upward, is_odd, is_ring_place, is_west, passes_upward, steps};
+ghost use Rattle.osm_area.specs.Edges.{counts, counts_upward, is_odd, is_ring_place, is_west, lies_east, passes_upward, steps};
 
 use osm_entity::Place;
 
@@ -75,4 +75,23 @@ pub(crate) fn path_counts_odd(path: &[Place], place: &Place) -> bool
         }
     }
     odd
+}
+
+fn is_no_higher(corner: &Place, place: &Place) -> bool
+    ensures { result ≡ int_le corner.now.lat place.now.lat }
+{
+    corner.lat <= place.lat
+}
+
+/// The same where all places of the path lie east of the place: then an edge counts exactly where
+/// its ends lie on different sides of the place's latitude, and so do the ends of the path.
+pub(crate) fn eastern_counts_odd(path: &[Place], place: &Place) -> bool
+    requires { list_all (lies_east place.now) path.now ≡ true }
+    ensures { result ≡ is_odd (count_by (counts place.now) (steps path.now)) }
+{
+    let [first, ..] = path else {
+        return false;
+    };
+    let last = &path[path.len() - 1];
+    is_no_higher(first, place) != is_no_higher(last, place)
 }

@@ -1,8 +1,10 @@
 //! Laws over rings and sections, in words that the code doesn't have.
-ghost use Rattle.std.specs.Prelude.{◌≡◌, ◌++◌, ◌∷◌, [], List, reverse, if◌then◌else◌};
+ghost use Rattle.std.specs.Prelude.{◌≡◌, ◌++◌, ◌∷◌, [], ℤ, List, reverse, true, if◌then◌else◌};
+ghost use Rattle.std.specs.List.{list_all};
 ghost use Rattle.osm_entity.specs.declared.parts.Place.{Place};
-ghost use Rattle.osm_area.specs.Areas.{sections_hold};
+ghost use Rattle.osm_area.specs.Areas.{holds, sections_hold};
 ghost use Rattle.osm_area.specs.Rings.{is_in_ring};
+ghost use Rattle.osm_area.specs.declared.area.Area.TheVariants.{Box};
 ghost use Rattle.osm_area.specs.declared.area.Section.{Section};
 
 /// A section behind others decides where its ring holds the place, and leaves it to them elsewhere.
@@ -22,4 +24,11 @@ pub fn rings_have_no_first()
 pub fn rings_have_no_sense()
     ensures { (ring : List Place) (place : Place) →
         is_in_ring (reverse ring) place ≡ is_in_ring ring place }
+{}
+
+/// A box that holds the places of a ring holds all that lies inside of the ring.
+pub fn boxes_hold_their_rings()
+    ensures { (left right top bottom : ℤ) (ring : List Place) (place : Place) →
+        list_all (holds (Box left right top bottom)) ring ≡ true →
+        is_in_ring ring place ≡ true → holds (Box left right top bottom) place ≡ true }
 {}

@@ -1,12 +1,13 @@
 //! Rings. Contracts see a ring as the list of its places.
 ghost use Rattle.std.specs.Prelude.{◌≡◌, IfOk, IsTrue};
 ghost use Rattle.std.specs.List.{list_all};
-ghost use Rattle.osm_area.specs.Bands.{groups_fit};
+ghost use Rattle.osm_area.specs.Bounds.{groups_fit};
 ghost use Rattle.osm_area.specs.Edges.{is_ring_place};
 ghost use Rattle.osm_area.specs.Rings.{is_in_ring};
 
-use crate::band::{Group, groups_count_odd, groups_of};
+use crate::bounds::{Bounds, are_round, bounds_of};
 use crate::edge::edge_counts;
+use crate::group::{Group, groups_count_odd, groups_of};
 use osm_entity::{NoMemory, Place, Sequence};
 use std::alloc::Global;
 use std::marker::Model;
@@ -18,6 +19,7 @@ pub const RING_LIMIT: u64 = 1_000_000_000_000;
 #[derive(Debug, Drop)]
 pub struct Ring {
     corners: Sequence<Place>,
+    bounds: Bounds,
     groups: Sequence<Group>,
 }
 
@@ -38,7 +40,7 @@ impl Model for Ring {
     ghost use Rattle.std.specs.Prelude.{List, IsTrue, ◌&&◌};
     ghost use Rattle.std.specs.List.{list_all};
     ghost use Rattle.osm_entity.specs.declared.parts.Place.{Place};
-    ghost use Rattle.osm_area.specs.Bands.{groups_fit};
+    ghost use Rattle.osm_area.specs.Bounds.{bounds_hold, groups_fit};
     ghost use Rattle.osm_area.specs.Edges.{is_ring_place};
 
     ghost Value = { List Place };
@@ -46,7 +48,10 @@ impl Model for Ring {
     ghost view = { λ r. r.corners };
 
     ghost invariant = { λ r.
-        IsTrue (list_all is_ring_place r.corners && groups_fit r.groups r.corners) };
+        IsTrue (
+        list_all is_ring_place r.corners
+        && list_all (bounds_hold r.bounds) r.corners
+        && groups_fit r.groups r.corners) };
 }
 
 impl Ring {
@@ -55,8 +60,13 @@ impl Ring {
         requires { IsTrue (list_all is_ring_place corners) }
         ensures { IfOk result (λ ring. ring ≡ corners) }
     {
+        let bounds = bounds_of(corners.as_slice());
         let groups = groups_of(alloc, corners.as_slice())?;
-        Ok(Ring { corners, groups })
+        Ok(Ring {
+            corners,
+            bounds,
+            groups,
+        })
     }
 
     /// Whether a place lies inside. It takes no memory.
@@ -65,6 +75,9 @@ impl Ring {
     {
         let corners = self.corners.as_slice();
         let groups = self.groups.as_slice();
+        if !are_round(&self.bounds, place) {
+            return false;
+        }
         closed_counts_odd(corners, groups, place)
     }
 }

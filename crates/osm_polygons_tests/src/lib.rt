@@ -6,3 +6,5 @@
 
 #[cfg(test)]
 mod polygons;
+#[cfg(test)]
+mod rings;

@@ -1,5 +1,6 @@
 //! What no clause says: that the definitions mean what the format's text says, by files and places
 //! whose answers were found by hand.
+use crate::rings::RINGS;
 use osm_area::Area;
 use osm_entity::Place;
 use osm_poly::{PolyError, read_poly};
@@ -104,7 +105,33 @@ fn files_say_what_the_tables_say(rt: HostRuntime) -> Result<(), Fail> {
     for (lon, lat, inside) in corners {
         assert_eq!(rt; area.contains(&Place { lon, lat }), inside);
     }
+    for (unit, file, places) in &RINGS {
+        assert!(rt; all_hold(alloc, *unit, file, places));
+    }
     Ok(())
+}
+
+/// Whether each of the places is where its mark says.
+fn all_hold(alloc: Global, unit: i64, file: &[u8], places: &[u8]) -> bool {
+    let Ok(area) = read_poly(alloc, file) else {
+        return false;
+    };
+    for place in places.chunks_exact(3) {
+        let [east, north, mark] = place else {
+            return false;
+        };
+        let lon = nano(unit, *east);
+        let lat = nano(unit, *north);
+        if area.contains(&Place { lon, lat }) != (*mark == b'+') {
+            return false;
+        }
+    }
+    true
+}
+
+/// A letter of a place in nanodegrees.
+fn nano(unit: i64, letter: u8) -> i64 {
+    unit.wrapping_mul(i64::from(letter) - i64::from(b'm'))
 }
 
 /// Whether the area of a file holds a place, in tenths of degrees.
