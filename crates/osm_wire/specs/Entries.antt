@@ -65,27 +65,41 @@ abbrev pub last_or : {T : Type 0} → T → List T → T
 last_or absent [] = absent
 last_or absent (x ∷ xs) = last_or x xs
 
--- a field that holds one number: that of its last entry, or this one where it isn't given
-abbrev pub last_number : ℕ → ℕ → List FieldValue → Option ℕ
-last_number absent number fields = option_map (last_or absent) (all_said as_number (payloads_of number fields))
+-- what the last entry of a field says, or this where it isn't given
+abbrev pub last_entry : {T : Type 0} → (Payload → Option T) → T → ℕ → List FieldValue → Option T
+last_entry says absent number fields = option_map (last_or absent) (all_said says (payloads_of number fields))
 
--- a field that may be absent and holds one number: that of its last entry, or this one or none where it isn't given
+-- a field that holds one number: that of its last entry, or this where it isn't given
+abbrev pub scalar : ℕ → ℕ → List FieldValue → Option ℕ
+scalar absent number fields = last_entry as_number absent number fields
+
+-- a field that holds one number, if it is given: that of its last entry, or this where it isn't given
 abbrev pub number_given : Option ℕ → ℕ → List FieldValue → Option (Option ℕ)
-number_given absent number fields =
-    option_map (λ numbers. last_or absent (map Some numbers)) (all_said as_number (payloads_of number fields))
+number_given absent number fields = last_entry (λ payload. option_map Some (as_number payload)) absent number fields
 
--- a field that may be absent and holds bytes: those of its last entry, or these or none where it isn't given
+-- a field that holds bytes, if it is given: those of its last entry, or this where it isn't given
 abbrev pub bytes_given : Option (List ℕ) → ℕ → List FieldValue → Option (Option (List ℕ))
-bytes_given absent number fields =
-    option_map (λ contents. last_or absent (map Some contents)) (all_said as_bytes (payloads_of number fields))
+bytes_given absent number fields = last_entry (λ payload. option_map Some (as_bytes payload)) absent number fields
+
+-- a field that holds one number and has to be given
+abbrev pub needed : ℕ → List FieldValue → Option ℕ
+needed number fields = number_given None number fields >>= (λ given. given)
+
+-- a field that holds bytes and has to be given
+abbrev pub needed_bytes : ℕ → List FieldValue → Option (List ℕ)
+needed_bytes number fields = bytes_given None number fields >>= (λ given. given)
 
 -- a repeated field of numbers: the numbers of all its entries joined, packed or not
-abbrev pub repeated_numbers : ℕ → List FieldValue → Option (List ℕ)
-repeated_numbers number fields = option_map concat (all_said as_numbers (payloads_of number fields))
+abbrev pub repeated : ℕ → List FieldValue → Option (List ℕ)
+repeated number fields = option_map concat (all_said as_numbers (payloads_of number fields))
 
 -- a repeated field of bytes, texts or messages: each entry as it is
-abbrev pub repeated_bytes : ℕ → List FieldValue → Option (List (List ℕ))
-repeated_bytes number fields = all_said as_bytes (payloads_of number fields)
+abbrev pub all_bytes : ℕ → List FieldValue → Option (List (List ℕ))
+all_bytes number fields = all_said as_bytes (payloads_of number fields)
+
+-- a repeated field of messages: what each says
+abbrev pub messages : {T : Type 0} → (List ℕ → Option T) → ℕ → List FieldValue → Option (List T)
+messages says number fields = all_bytes number fields >>= all_said says
 
 -- at most one value
 abbrev pub at_most_one : {T : Type 0} → List T → Option (Option T)
@@ -93,6 +107,15 @@ at_most_one [] = Some None
 at_most_one (x ∷ []) = Some (Some x)
 at_most_one (x ∷ y ∷ more) = None
 
--- a field of a message that may come once or not at all
+-- the bytes of a field that is given at most once
 abbrev pub single_bytes : ℕ → List FieldValue → Option (Option (List ℕ))
-single_bytes number fields = repeated_bytes number fields >>= at_most_one
+single_bytes number fields = all_bytes number fields >>= at_most_one
+
+-- what a message says, or this where there is none
+abbrev pub said_or : {T : Type 0} → T → (List ℕ → Option T) → Option (List ℕ) → Option T
+said_or absent says None = Some absent
+said_or absent says (Some message) = says message
+
+-- a field of a message that is given at most once: what it says, or this where it isn't given
+abbrev pub singular : {T : Type 0} → T → (List ℕ → Option T) → ℕ → List FieldValue → Option T
+singular absent says number fields = single_bytes number fields >>= said_or absent says

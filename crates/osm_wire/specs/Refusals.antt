@@ -1,17 +1,18 @@
 -- Why bytes begin with no field: what the code answers where it cuts no further.
 -- Here bytes are looked at whole, and parted as a field is spelled; the code stops where it can't go on.
-use Rattle.std.specs.Prelude.{ℕ, ◌+◌, ◌%◌, ◌≡◌, ◌≤◌, ◌<◌, List, ◌++◌, All, Some, None, length, take, slice_index}
+use Rattle.std.specs.Prelude.{ℕ, ◌+◌, ◌%◌, ◌≡◌, ◌<◌, List, ◌++◌, Some, None, length, take, slice_index}
+use Rattle.std.specs.List.{position}
 use Rattle.osm_wire.specs.declared.error.WireError.{WireError}
 use Rattle.osm_wire.specs.declared.error.WireError.TheVariants.{Short, Overlong, Group, BadWire}
 use Rattle.osm_wire.specs.Fronts.{Front, IsGoodFront}
 use Rattle.osm_wire.specs.Messages.{FieldValue, SpellsField, tag_fault}
-use Rattle.osm_wire.specs.Varints.{SpellsNumber}
+use Rattle.osm_wire.specs.Varints.{SpellsNumber, is_last_byte}
 
 -- bytes begin with no number: they end within it, or it has more than ten bytes or a tenth above 1
 abbrev pub RefusesNumber : List ℕ → WireError → Type 0
-RefusesNumber bytes Short = (length bytes < 10) × All (λ byte. 128 ≤ byte) bytes
+RefusesNumber bytes Short = (length bytes < 10) × (position is_last_byte bytes ≡ None)
 RefusesNumber bytes Overlong =
-    (9 < length bytes) × All (λ byte. 128 ≤ byte) (take 9 bytes) × (1 < slice_index bytes 9)
+    (9 < length bytes) × (position is_last_byte (take 9 bytes) ≡ None) × (1 < slice_index bytes 9)
 RefusesNumber bytes Group = ⊥
 RefusesNumber bytes BadWire = ⊥
 

@@ -33,6 +33,13 @@ impl<'a> Fields<'a> {
         Fields { rest: message }
     }
 
+    /// The bytes that come after the field that `next` gave last.
+    pub fn rest(&self) -> &'a [u8]
+        ensures { result.now ≡ self.now }
+    {
+        self.rest
+    }
+
     /// The next field. `None` at the end of the message, and after an error. `Short` where the
     /// message ends within a field, `Overlong` where one of its varints is too long, `BadWire` where
     /// its number is 0, its tag has more than 32 bits or its wire type is 6 or 7, and `Group` where

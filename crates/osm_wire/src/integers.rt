@@ -9,9 +9,9 @@ pub fn zigzag(n: i64) -> u64
     ensures { result ≡ zigzagged n }
 {
     if n >= 0 {
-        2 * n.unsigned_abs()
+        2 * n as u64
     } else {
-        2 * n.unsigned_abs() - 1
+        2 * (-1 - n) as u64 + 1
     }
 }
 

@@ -1,7 +1,8 @@
 //! Varints: numbers of up to 64 bits in one to ten bytes, seven bits a byte, the lowest first. The
 //! high bit of each byte but the last is set.
-ghost use Rattle.std.specs.Prelude.{◌≡◌, ◌<◌, ◌≤◌, ◌+◌, ◌^◌, All, IfOk, drop, length, slice_index, take};
-ghost use Rattle.osm_wire.specs.Varints.{front_number, varint_value};
+ghost use Rattle.std.specs.Prelude.{◌≡◌, ◌<◌, ◌≤◌, ◌+◌, ◌^◌, None, IfOk, drop, length, take};
+ghost use Rattle.std.specs.List.{position};
+ghost use Rattle.osm_wire.specs.Varints.{front_number, is_last_byte, varint_value};
 
 use crate::error::WireError;
 
@@ -48,7 +49,7 @@ fn long_varint(bytes: &[u8]) -> Result<(u64, usize), WireError>
 
 // The same, where the first nine bytes, or all, go on, and make this number.
 fn longest_varint(bytes: &[u8], number: u64) -> Result<(u64, usize), WireError>
-    requires high { All (λ byte. 128 ≤ byte) (take 9 bytes.now) }
+    requires high { position is_last_byte (take 9 bytes.now) ≡ None }
     requires number { number ≡ varint_value (take 9 bytes.now) }
     requires fits { number < 2 ^ 63 }
     ensures value { result ≡ front_number bytes.now }

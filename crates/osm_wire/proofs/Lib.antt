@@ -1,0 +1,5 @@
+pub mod EntryLemmas
+pub mod FieldLemmas
+pub mod FrontLemmas
+pub mod VarintLemmas
+pub mod WrittenLemmas
