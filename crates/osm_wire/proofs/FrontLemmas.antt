@@ -44,7 +44,6 @@ pub record ReadsFirst {T : Type 0} (first : List ℕ → Result (T × ℕ) WireE
 
 module _ {T : Type 0} (first : List ℕ → Result (T × ℕ) WireError) (Spelled : List ℕ → T → Type 0)
     (Refused : List ℕ → WireError → Type 0) (reads : ReadsFirst first Spelled Refused) where
-
   -- the pieces of bytes that spell one and of what follows it
   spelled-next : (bytes rest : List ℕ) (item : T) → Spelled bytes item →
       front_of first (bytes ++ rest) ≡ in_front item (front_of first rest)

@@ -140,9 +140,13 @@ SpellsAll-flat_map : {T : Type 0} (Spelled : List ℕ → T → Type 0) (Good : 
     ((item : T) → Good item → Spelled (write item) item) → (items : List T) → All Good items →
     SpellsAll Spelled (flat_map write items) items
 SpellsAll-flat_map Spelled Good write each [] all = refl
-SpellsAll-flat_map Spelled Good write each (item ∷ items) all =
-    (write item, flat_map write items, refl, each item (All-head Good item items all),
-        SpellsAll-flat_map Spelled Good write each items (All-tail Good item items all))
+SpellsAll-flat_map Spelled Good write each (item ∷ items) all = (
+  write item,
+  flat_map write items,
+  refl,
+  each item (All-head Good item items all),
+  SpellsAll-flat_map Spelled Good write each items (All-tail Good item items all),
+)
 
 -- fields that are written are read back
 pub written_message-front : (fields : List FieldValue) → All IsField fields →
