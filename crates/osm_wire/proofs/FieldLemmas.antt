@@ -1,5 +1,5 @@
 -- How the field at the front of bytes follows from what they spell, and why there is none.
-use Rattle.std.proofs.Common.{◌≡◌, ◌≢◌, ◌∙◌, ◌<◌, ◌≤◌, ◌-◌, ◌+◌, ◌*◌, ◌/◌, ◌%◌, ◌^◌, ◌++◌, ◌∷◌, [], ℕ, zero, suc, true, false, List, Option, Result, Ok, Err, Some, None, length, take, drop, refl, ap, sym, subst, lit<, arith, append_assoc, length-append, length-drop, ◌⊎◌, inl, inr}
+use Rattle.std.proofs.Common.{◌≡◌, ◌≢◌, ◌∙◌, ◌<◌, ◌≤◌, ◌-◌, ◌+◌, ◌*◌, ◌/◌, ◌%◌, ◌^◌, ◌++◌, ◌∷◌, [], ℕ, zero, suc, true, false, List, Option, Result, Ok, Err, Some, None, length, take, drop, refl, ap, sym, subst, lit<, arith, zero-add, append_assoc, length-append, length-drop, ◌⊎◌, inl, inr}
 use Rattle.std.specs.Prelude.{◌==◌, ◌||◌, nat_lt, nat_le, if◌then◌else◌}
 use Rattle.std.proofs.lemmas.Bool.{lt-ltb, le-ltb, lt-leb, ltb-true, ltb-false, leb-false, ne_eqb, eqb-false, or_parts}
 use Rattle.std.proofs.lemmas.List.{drop_at, take_at, take_all, length-take-le, take-append-drop}
@@ -13,13 +13,15 @@ use Rattle.osm_wire.proofs.FrontLemmas.{ReadsFirst}
 use Rattle.osm_wire.proofs.VarintLemmas.{SpellsNumber-some, chosen, err_ok, front_number-read, front_number-refused, front_number-refuses, front_number-spelled, same_error}
 
 -- two equal values in answers are equal
-pub same_value : {X : Type 0} {x y : X} → Ok {E = WireError} x ≡ Ok y → x ≡ y
+pub same_value : {X : Type 0} {x y : X} → ◌≡◌ {A = Result X WireError} (Ok x) (Ok y) → x ≡ y
 same_value is = cc
 
 -- bytes up to a place and then some more
 take-add : (m n : ℕ) (bytes : List ℕ) → take (m + n) bytes ≡ take m bytes ++ take n (drop m bytes)
-take-add zero n bytes = ap (λ k. take k bytes) (omega arith)
-take-add (suc m) n [] = ap (λ k. take k []) (omega arith) ∙ sym (take_all n [] (omega arith))
+take-add zero n bytes = rw zero-add refl
+take-add (suc m) n [] =
+    let more : suc m + n ≡ suc (m + n) = omega arith in
+    rw (more, take_all n [] (omega arith)) refl
 take-add (suc m) n (byte ∷ bytes) =
     let more : suc m + n ≡ suc (m + n) = omega arith in
     ap (λ k. take k (byte ∷ bytes)) more ∙ ap (λ list. byte ∷ list) (take-add m n bytes)
@@ -189,7 +191,7 @@ front_payload-refused : (kind : ℕ) (bytes : List ℕ) (error : WireError) → 
 front_payload-refused kind bytes error (no_varint is) = ap (λ answer. varint_payload answer) (front_number-refused bytes error is)
 front_payload-refused kind bytes error (not_eight few) = rw (lt-ltb (length bytes) 8 few) refl
 front_payload-refused kind bytes error (no_length is) = ap (λ answer. counted_payload bytes answer) (front_number-refused bytes error is)
-front_payload-refused kind bytes error (cut_off {size} {content} {count} spelled few) =
+front_payload-refused kind bytes error (cut_off {size} {count} content spelled few) =
     let long : length (size ++ content) ≡ length size + length content = length-append size content in
     ap (λ answer. counted_payload (size ++ content) answer) (front_number-spelled size content count spelled)
     ∙ rw (lt-ltb (length (size ++ content)) (length size + count) (omega (arith, long, few))) refl
@@ -226,7 +228,7 @@ counted_payload-refuses bytes error (Ok (count, size)) found is =
           let few : length bytes < size + count = ltb-true (length bytes) (size + count) both.0 in
           let left : length (drop size bytes) ≡ length bytes - size = length-drop size bytes in
           let refused : RefusesPayload 2 (take size bytes ++ drop size bytes) Short =
-          cut_off {count = count} read.1 (omega (arith, few, left, read.0)) in
+          cut_off {count = count} (drop size bytes) read.1 (omega (arith, few, left, read.0)) in
           subst (λ (e : WireError). RefusesPayload 2 bytes e) (same_error both.1)
           (subst (λ (list : List ℕ). RefusesPayload 2 list Short) (take-append-drop size bytes) refused)
       | inr both ↦ absurd (err_ok (sym both.1))
@@ -311,10 +313,10 @@ front_field-read bytes field size is = field_behind-read bytes (field, size) (fr
 pub front_field-refused : (bytes : List ℕ) (error : WireError) → RefusesField bytes error → front_field bytes ≡ Err error
 unfolding front_field
 front_field-refused bytes error (no_tag is) = ap (λ answer. field_behind answer bytes) (front_number-refused bytes error is)
-front_field-refused bytes error (bad_tag {tag} {rest} {n} spelled fault) =
+front_field-refused bytes error (bad_tag {tag} {n} rest spelled fault) =
     ap (λ answer. field_behind answer (tag ++ rest)) (front_number-spelled tag rest n spelled)
     ∙ ap (λ found. tagged_field found n (length tag) (tag ++ rest)) fault
-front_field-refused bytes error (no_payload {tag} {rest} {n} spelled none is) =
+front_field-refused bytes error (no_payload {tag} {n} rest spelled none is) =
     ap (λ answer. field_behind answer (tag ++ rest)) (front_number-spelled tag rest n spelled)
     ∙ ap (λ found. tagged_field found n (length tag) (tag ++ rest)) none
     ∙ ap (λ left. numbered_field (n / 8) (length tag) (front_payload (n % 8) left)) (drop_at tag rest (length tag) refl)
@@ -328,7 +330,7 @@ numbered_field-refuses bytes tag size error (Ok (payload, more)) read none found
 numbered_field-refuses bytes tag size error (Err other) read none found is =
     let good = IsTag-from_none tag none in
     let refused = front_payload-refuses (drop size bytes) error (tag % 8) good.typed (found ∙ ap (λ e. Err e) (same_error is)) in
-    subst (λ (list : List ℕ). RefusesField list error) (take-append-drop size bytes) (no_payload read.1 none refused)
+    subst (λ (list : List ℕ). RefusesField list error) (take-append-drop size bytes) (no_payload (drop size bytes) read.1 none refused)
 
 -- by the fault of its tag
 tagged_field-refuses : (bytes : List ℕ) (tag size : ℕ) (error : WireError) (fault : Option WireError) →
@@ -336,7 +338,7 @@ tagged_field-refuses : (bytes : List ℕ) (tag size : ℕ) (error : WireError) (
     tagged_field fault tag size bytes ≡ Err error → RefusesField bytes error
 tagged_field-refuses bytes tag size error (Some other) read found is =
     subst (λ (list : List ℕ). RefusesField list error) (take-append-drop size bytes)
-    (bad_tag read.1 (found ∙ ap (λ e. Some e) (same_error is)))
+    (bad_tag (drop size bytes) read.1 (found ∙ ap (λ e. Some e) (same_error is)))
 tagged_field-refuses bytes tag size error None read found is =
     numbered_field-refuses bytes tag size error (front_payload (tag % 8) (drop size bytes)) read found refl is
 

@@ -13,7 +13,7 @@ use Rattle.std.proofs.Math.Pow.{pow_mono}
 use Rattle.osm_wire.specs.Refusals.{RefusesNumber}
 use Rattle.osm_wire.specs.Varints.{SpellsNumber, varint_value, is_last_byte, front_number, number_ending, number_fitting}
 use Rattle.osm_wire.specs.declared.error.WireError.{WireError}
-use Rattle.osm_wire.specs.declared.error.WireError.TheVariants.{Short, Overlong}
+use Rattle.osm_wire.specs.declared.error.WireError.TheVariants.{Short, Overlong, Group, BadWire}
 
 -- so many bytes at the front go on
 abbrev pub GoOn : List ℕ → ℕ → Type 0
@@ -115,6 +115,43 @@ front_number-ends bytes size number short within more ends value fits =
     (take-GoOn bytes 10 size (omega (arith, short)) more)
     (rw (get_or-take 10 bytes size 0 (omega (arith, short))) (lt-ltb (get_or bytes size 0) 128 ends)) in
     rw (found, sym value, lt-ltb number (2 ^ 64) fits) refl
+
+-- one byte below 128 is its number
+pub front_number-one : (bytes : List ℕ) → 0 < length bytes → get_or bytes 0 0 < 128 →
+    front_number bytes ≡ Ok (get_or bytes 0 0, 1)
+front_number-one bytes within ends =
+    front_number-ends bytes 0 (get_or bytes 0 0) (omega arith) within (λ k below. absurd (omega (arith, below))) ends
+    (omega (arith, varint_value_more bytes 0 within, ends)) (omega (arith, ends))
+
+-- nine bytes that go on and a tenth of at most 1 are a number
+pub front_number-ten : (bytes : List ℕ) (number tenth : ℕ) → 9 < length bytes → position is_last_byte (take 9 bytes) ≡ None →
+    number ≡ varint_value (take 9 bytes) → number < 2 ^ 63 → get_or bytes 9 0 ≡ tenth → tenth ≤ 1 →
+    front_number bytes ≡ Ok (number + tenth * 2 ^ 63, 10)
+front_number-ten bytes number tenth within none value small is least =
+    let nine : length (take 9 bytes) ≡ 9 = length-take-le 9 bytes (omega (arith, within)) in
+    let more : GoOn bytes 9 = GoOn-take bytes 9 9 (omega arith) (rw nine at (none-goes_on (take 9 bytes) none)) in
+    let next = varint_value_more bytes 9 within in
+    front_number-ends bytes 9 (number + tenth * 2 ^ 63) (omega arith) within more (omega (arith, is, least))
+    (omega (arith, next, is, least, value)) (omega (arith, small, least))
+
+-- seven bits more below the 64th
+pub number_more : (bytes : List ℕ) (size number : ℕ) → size < 9 → size < length bytes →
+    number ≡ varint_value (take size bytes) → number < 2 ^ (7 * size) →
+    (number + get_or bytes size 0 % 128 * 2 ^ (7 * size) % 2 ^ 64 ≡ varint_value (take (size + 1) bytes))
+    × (number + get_or bytes size 0 % 128 * 2 ^ (7 * size) % 2 ^ 64 < 2 ^ (7 * (size + 1)))
+    × (number + get_or bytes size 0 % 128 * 2 ^ (7 * size) % 2 ^ 64 < 2 ^ 64)
+number_more bytes size number short within value small =
+    let byte : ℕ = get_or bytes size 0 in
+    let power = power_more size in
+    let bound : 2 ^ (7 * (size + 1)) ≤ 2 ^ 63 = pow_mono {j = 63} (omega (arith, short)) in
+    let digit : byte % 128 * 2 ^ (7 * size) ≤ 127 * 2 ^ (7 * size) =
+    mul-le (byte % 128) (2 ^ (7 * size)) 127 (2 ^ (7 * size)) (omega arith) (omega arith) in
+    let kept : byte % 128 * 2 ^ (7 * size) % 2 ^ 64 ≡ byte % 128 * 2 ^ (7 * size) =
+    mod-eq_of_lt (omega (arith, digit, power, bound, small)) in (
+      rw (kept, value) (sym (varint_value_more bytes size within)),
+      rw kept (omega (arith, digit, power, small)),
+      rw kept (omega (arith, digit, power, bound, small)),
+    )
 
 -- fewer than ten bytes that go on are short
 pub front_number-short : (bytes : List ℕ) → length bytes < 10 → position is_last_byte bytes ≡ None → front_number bytes ≡ Err Short
@@ -219,7 +256,7 @@ unfolding front_number
 front_number-read bytes n size read = ending-read bytes n size (position is_last_byte (take 10 bytes)) refl read
 
 -- two equal refusals have one error
-pub same_error : {X : Type 0} {e f : WireError} → Err {T = X} e ≡ Err f → e ≡ f
+pub same_error : {X : Type 0} {e f : WireError} → ◌≡◌ {A = Result X WireError} (Err e) (Err f) → e ≡ f
 same_error is = cc
 
 -- more than 64 bits up to a last byte among the first ten, of which those before it go on, are overlong

@@ -21,16 +21,16 @@ pub data RefusesPayload : ℕ → List ℕ → WireError → Type 0 where
   no_varint : {bytes : List ℕ} {error : WireError} → RefusesNumber bytes error → RefusesPayload 0 bytes error
   not_eight : {bytes : List ℕ} → length bytes < 8 → RefusesPayload 1 bytes Short
   no_length : {bytes : List ℕ} {error : WireError} → RefusesNumber bytes error → RefusesPayload 2 bytes error
-  cut_off : {size content : List ℕ} {count : ℕ} →
+  cut_off : {size : List ℕ} {count : ℕ} (content : List ℕ) →
       SpellsNumber size count → length content < count → RefusesPayload 2 (size ++ content) Short
   not_four : {bytes : List ℕ} → length bytes < 4 → RefusesPayload 5 bytes Short
 
 -- bytes begin with no field: with no tag, with a tag that begins none, or with a tag that has no payload
 pub data RefusesField : List ℕ → WireError → Type 0 where
   no_tag : {bytes : List ℕ} {error : WireError} → RefusesNumber bytes error → RefusesField bytes error
-  bad_tag : {tag rest : List ℕ} {n : ℕ} {error : WireError} →
+  bad_tag : {tag : List ℕ} {n : ℕ} {error : WireError} (rest : List ℕ) →
       SpellsNumber tag n → tag_fault n ≡ Some error → RefusesField (tag ++ rest) error
-  no_payload : {tag rest : List ℕ} {n : ℕ} {error : WireError} →
+  no_payload : {tag : List ℕ} {n : ℕ} {error : WireError} (rest : List ℕ) →
       SpellsNumber tag n → tag_fault n ≡ None → RefusesPayload (n % 8) rest error → RefusesField (tag ++ rest) error
 
 -- the good front of a message
