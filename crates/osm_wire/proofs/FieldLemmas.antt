@@ -21,7 +21,8 @@ take-add : (m n : ℕ) (bytes : List ℕ) → take (m + n) bytes ≡ take m byte
 take-add zero n bytes = rw zero-add refl
 take-add (suc m) n [] =
     let more : suc m + n ≡ suc (m + n) = omega arith in
-    rw (more, take_all n [] (omega arith)) refl
+    let none : take n [] ≡ [] = take_all {A = ℕ} n [] (omega arith) in
+    rw (more, none) refl
 take-add (suc m) n (byte ∷ bytes) =
     let more : suc m + n ≡ suc (m + n) = omega arith in
     ap (λ k. take k (byte ∷ bytes)) more ∙ ap (λ list. byte ∷ list) (take-add m n bytes)

@@ -1,9 +1,9 @@
 -- What is written spells what it is written of, in as few bytes as can be, and is read back.
-use Rattle.std.proofs.Common.{◌≡◌, ◌∙◌, ◌<◌, ◌≤◌, ◌-◌, ◌+◌, ◌*◌, ◌/◌, ◌%◌, ◌^◌, ◌++◌, ◌∷◌, [], ℕ, zero, suc, true, false, List, Option, Some, None, length, take, get_or, refl, ap, sym, subst, lit<, lit≤, arith, add-one, sub-one, inl, inr}
+use Rattle.std.proofs.Common.{◌≡◌, ◌∙◌, ◌<◌, ◌≤◌, ◌-◌, ◌+◌, ◌*◌, ◌/◌, ◌%◌, ◌^◌, ◌++◌, ◌∷◌, [], ℕ, zero, suc, true, false, List, Option, Some, None, length, set, take, get_or, refl, ap, sym, subst, lit<, lit≤, arith, add-one, sub-one, inl, inr}
 use Rattle.std.specs.Prelude.{All}
 use Rattle.std.specs.List.{flat_map}
 use Rattle.std.proofs.lemmas.Bool.{lt-ltb, le-ltb, cases_lt}
-use Rattle.std.proofs.lemmas.List.{append-nil}
+use Rattle.std.proofs.lemmas.List.{append-nil, append_assoc, take_more_set}
 use Rattle.std.proofs.lemmas.List.Elements.{All-head, All-tail}
 use Rattle.std.proofs.lemmas.Nat.{pow-add}
 use Rattle.std.proofs.Math.Pow.{pow_mono}
@@ -114,6 +114,35 @@ varint_within-more (suc left) n some large = rw (le-ltb n 128 large, sub-one) re
 pub varint_within-last : (left n : ℕ) → 0 < left → n < 128 → varint_within left n ≡ n ∷ []
 varint_within-last zero n some small = absurd (omega (arith, some))
 varint_within-last (suc left) n some small = rw (lt-ltb n 128 small) refl
+
+-- a number below 128 is one byte
+pub shortest_varint-small : (n : ℕ) → n < 128 → shortest_varint n ≡ n ∷ []
+unfolding shortest_varint
+shortest_varint-small n small = varint_within-last 10 n (omega arith) small
+
+-- one more byte of a number that is written byte by byte
+pub varint-step : (n size rest : ℕ) (bytes : List ℕ) → size ≤ 9 → size < length bytes → 128 ≤ rest →
+    rest < 2 ^ (7 * (10 - size)) → shortest_varint n ≡ take size bytes ++ varint_within (10 - size) rest →
+    (size + 1 ≤ 9) × (rest / 128 < 2 ^ (7 * (10 - (size + 1))))
+    × (shortest_varint n
+    ≡ take (size + 1) (set bytes size (rest % 128 + 128)) ++ varint_within (10 - (size + 1)) (rest / 128))
+varint-step n size rest bytes short within large small value = elim (cases_lt size 9) [
+  | inl below ↦
+      let power : 2 ^ (7 * (10 - size)) ≡ 2 ^ (7 * (10 - (size + 1))) * 128 =
+      ap (λ k. 2 ^ k) (omega (arith, below)) ∙ pow-add 2 (7 * (10 - (size + 1))) 7 in
+      let next : varint_within (10 - size) rest ≡ (rest % 128 + 128) ∷ varint_within (10 - size - 1) (rest / 128) =
+      varint_within-more (10 - size) rest (omega (arith, below)) large in
+      let left : 10 - size - 1 ≡ 10 - (size + 1) = omega arith in (
+        omega (arith, below),
+        omega (arith, power, small),
+        rw (take_more_set bytes size (rest % 128 + 128) within, append_assoc (take size bytes) ((rest % 128 + 128) ∷ []) (varint_within (10 - (size + 1)) (rest / 128)))
+            (value ∙ ap (λ more. take size bytes ++ more) (next ∙ ap (λ k. (rest % 128 + 128) ∷ varint_within k (rest / 128)) left)),
+      )
+  | inr last ↦
+      let nine : size ≡ 9 = omega (arith, short, last) in
+      let least : rest < 128 = rw nine at small in
+      absurd (omega (arith, least, large))
+]
 
 -- a payload that can be written is spelled
 written_payload-spells : (payload : Payload) → IsPayload payload → SpellsPayload (written_payload payload) payload

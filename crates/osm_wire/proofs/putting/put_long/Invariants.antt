@@ -1,9 +1,10 @@
-use Rattle.std.proofs.Common.{◌≡◌, ◌<◌, ◌≤◌, ◌-◌, ◌*◌, ◌^◌, ◌++◌, take}
+use Rattle.std.proofs.Common.{◌≡◌, ◌<◌, ◌≤◌, ◌-◌, ◌*◌, ◌^◌, ◌++◌, length, take}
 use Rattle.osm_wire.specs.Written.{shortest_varint, varint_within}
 use Rattle.osm_wire.proofs.putting.put_long.Given as goal
 
 abbrev pub invariant-loop-rest : goal.invariant-loop-rest
 invariant-loop-rest l = record {
+  room : length l.bytes ≡ 10;
   within : l.size ≤ 9;
   small : l.rest < 2 ^ (7 * (10 - l.size));
   value : shortest_varint l.fn.n ≡ take l.size l.bytes ++ varint_within (10 - l.size) l.rest;
