@@ -1,5 +1,5 @@
 -- What fields say follows from the first of them and those after it.
-use Rattle.std.proofs.Common.{◌≡◌, ◌∙◌, ◌++◌, ◌∷◌, [], ℕ, List, Option, Some, None, refl, ap}
+use Rattle.std.proofs.Common.{◌≡◌, ◌∙◌, ◌++◌, ◌∷◌, ℕ, List, Option, Some, None, refl, ap}
 use Rattle.std.specs.List.{concat}
 use Rattle.std.specs.Option.{option_map}
 use Rattle.std.proofs.lemmas.Bool.{eq-eqb, ne_eqb}
@@ -16,6 +16,19 @@ pub payloads_of-other : (number : ℕ) (field : FieldValue) (fields : List Field
     payloads_of number (field ∷ fields) ≡ payloads_of number fields
 payloads_of-other number field fields other = rw (ne_eqb field.number number other) refl
 
+-- what the first of some payloads says, before what the others say
+pub all_said-here : {T : Type 0} (says : Payload → Option T) (x : T) (number : ℕ) (field : FieldValue)
+    (fields : List FieldValue) → field.number ≡ number → says field.value ≡ Some x →
+    all_said says (payloads_of number (field ∷ fields))
+    ≡ (all_said says (payloads_of number fields) >>= (λ rest. Some (x ∷ rest)))
+all_said-here says x number field fields is said = rw (payloads_of-here number field fields is, said) refl
+
+-- where the first says nothing, they don't all say something
+pub all_said-none : {T : Type 0} (says : Payload → Option T) (number : ℕ) (field : FieldValue)
+    (fields : List FieldValue) → field.number ≡ number → says field.value ≡ None →
+    all_said says (payloads_of number (field ∷ fields)) ≡ None
+all_said-none says number field fields is said = rw (payloads_of-here number field fields is, said) refl
+
 -- the last of one value and others
 last-more : {T : Type 0} (absent x : T) (others : Option (List T)) →
     option_map (last_or absent) (others >>= (λ rest. Some (x ∷ rest))) ≡ option_map (last_or x) others
@@ -27,8 +40,7 @@ pub last_entry-here : {T : Type 0} (says : Payload → Option T) (absent x : T) 
     (fields : List FieldValue) → field.number ≡ number → says field.value ≡ Some x →
     last_entry says absent number (field ∷ fields) ≡ last_entry says x number fields
 last_entry-here says absent x number field fields is said =
-    ap (λ payloads. option_map (last_or absent) (all_said says payloads)) (payloads_of-here number field fields is)
-    ∙ ap (λ first. option_map (last_or absent) (first >>= (λ x. all_said says (payloads_of number fields) >>= (λ rest. Some (x ∷ rest))))) said
+    ap (λ values. option_map (last_or absent) values) (all_said-here says x number field fields is said)
     ∙ last-more absent x (all_said says (payloads_of number fields))
 
 -- an entry that says nothing says nothing of the field
@@ -36,8 +48,7 @@ pub last_entry-none : {T : Type 0} (says : Payload → Option T) (absent : T) (n
     (fields : List FieldValue) → field.number ≡ number → says field.value ≡ None →
     last_entry says absent number (field ∷ fields) ≡ None
 last_entry-none says absent number field fields is said =
-    ap (λ payloads. option_map (last_or absent) (all_said says payloads)) (payloads_of-here number field fields is)
-    ∙ ap (λ first. option_map (last_or absent) (first >>= (λ x. all_said says (payloads_of number fields) >>= (λ rest. Some (x ∷ rest))))) said
+    ap (λ values. option_map (last_or absent) values) (all_said-none says number field fields is said)
 
 -- a field of another number changes nothing
 pub last_entry-other : {T : Type 0} (says : Payload → Option T) (absent : T) (number : ℕ) (field : FieldValue)
@@ -48,25 +59,24 @@ last_entry-other says absent number field fields other =
 
 -- numbers joined with those of other entries
 joined-more : (numbers : List ℕ) (others : Option (List (List ℕ))) →
-    option_map concat (others >>= (λ rest. Some (numbers ∷ rest))) ≡ option_map (λ more. numbers ++ more) (option_map concat others)
+    option_map concat (others >>= (λ rest. Some (numbers ∷ rest)))
+    ≡ option_map (λ more. numbers ++ more) (option_map concat others)
 joined-more numbers None = refl
 joined-more numbers (Some rest) = refl
 
 -- the numbers of the first entry come first
-pub repeated-here : (numbers : List ℕ) (number : ℕ) (field : FieldValue) (fields : List FieldValue) → field.number ≡ number →
-    as_numbers field.value ≡ Some numbers →
+pub repeated-here : (numbers : List ℕ) (number : ℕ) (field : FieldValue) (fields : List FieldValue) →
+    field.number ≡ number → as_numbers field.value ≡ Some numbers →
     repeated number (field ∷ fields) ≡ option_map (λ more. numbers ++ more) (repeated number fields)
 repeated-here numbers number field fields is said =
-    ap (λ payloads. option_map concat (all_said as_numbers payloads)) (payloads_of-here number field fields is)
-    ∙ ap (λ first. option_map concat (first >>= (λ x. all_said as_numbers (payloads_of number fields) >>= (λ rest. Some (x ∷ rest))))) said
+    ap (λ values. option_map concat values) (all_said-here as_numbers numbers number field fields is said)
     ∙ joined-more numbers (all_said as_numbers (payloads_of number fields))
 
 -- an entry without numbers says nothing of the field
 pub repeated-none : (number : ℕ) (field : FieldValue) (fields : List FieldValue) → field.number ≡ number →
     as_numbers field.value ≡ None → repeated number (field ∷ fields) ≡ None
 repeated-none number field fields is said =
-    ap (λ payloads. option_map concat (all_said as_numbers payloads)) (payloads_of-here number field fields is)
-    ∙ ap (λ first. option_map concat (first >>= (λ x. all_said as_numbers (payloads_of number fields) >>= (λ rest. Some (x ∷ rest))))) said
+    ap (λ values. option_map concat values) (all_said-none as_numbers number field fields is said)
 
 -- a field of another number changes nothing
 pub repeated-other : (number : ℕ) (field : FieldValue) (fields : List FieldValue) → (field.number ≡ number → ⊥) →
@@ -75,19 +85,15 @@ repeated-other number field fields other =
     ap (λ payloads. option_map concat (all_said as_numbers payloads)) (payloads_of-other number field fields other)
 
 -- the bytes of the first entry come first
-pub all_bytes-here : (content : List ℕ) (number : ℕ) (field : FieldValue) (fields : List FieldValue) → field.number ≡ number →
-    as_bytes field.value ≡ Some content →
+pub all_bytes-here : (content : List ℕ) (number : ℕ) (field : FieldValue) (fields : List FieldValue) →
+    field.number ≡ number → as_bytes field.value ≡ Some content →
     all_bytes number (field ∷ fields) ≡ (all_bytes number fields >>= (λ rest. Some (content ∷ rest)))
-all_bytes-here content number field fields is said =
-    ap (λ payloads. all_said as_bytes payloads) (payloads_of-here number field fields is)
-    ∙ ap (λ first. first >>= (λ x. all_said as_bytes (payloads_of number fields) >>= (λ rest. Some (x ∷ rest)))) said
+all_bytes-here content number field fields is said = all_said-here as_bytes content number field fields is said
 
 -- an entry without bytes says nothing of the field
 pub all_bytes-none : (number : ℕ) (field : FieldValue) (fields : List FieldValue) → field.number ≡ number →
     as_bytes field.value ≡ None → all_bytes number (field ∷ fields) ≡ None
-all_bytes-none number field fields is said =
-    ap (λ payloads. all_said as_bytes payloads) (payloads_of-here number field fields is)
-    ∙ ap (λ first. first >>= (λ x. all_said as_bytes (payloads_of number fields) >>= (λ rest. Some (x ∷ rest)))) said
+all_bytes-none number field fields is said = all_said-none as_bytes number field fields is said
 
 -- a field of another number changes nothing
 pub all_bytes-other : (number : ℕ) (field : FieldValue) (fields : List FieldValue) → (field.number ≡ number → ⊥) →

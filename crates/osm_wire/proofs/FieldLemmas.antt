@@ -1,5 +1,5 @@
 -- How the field at the front of bytes follows from what they spell, and why there is none.
-use Rattle.std.proofs.Common.{◌≡◌, ◌≢◌, ◌∙◌, ◌<◌, ◌≤◌, ◌-◌, ◌+◌, ◌*◌, ◌/◌, ◌%◌, ◌^◌, ◌++◌, ◌∷◌, [], ℕ, zero, suc, true, false, List, Option, Result, Ok, Err, Some, None, length, take, drop, refl, ap, sym, subst, lit<, arith, zero-add, append_assoc, length-append, length-drop, ◌⊎◌, inl, inr}
+use Rattle.std.proofs.Common.{◌≡◌, ◌≢◌, ◌∙◌, ◌<◌, ◌≤◌, ◌-◌, ◌+◌, ◌*◌, ◌/◌, ◌%◌, ◌^◌, ◌++◌, ◌∷◌, [], ℕ, zero, suc, List, Option, Result, Ok, Err, Some, None, length, take, drop, refl, ap, sym, subst, arith, zero-add, append_assoc, length-append, length-drop, ◌⊎◌, inl, inr}
 use Rattle.std.specs.Prelude.{◌==◌, ◌||◌, nat_lt, nat_le, if◌then◌else◌}
 use Rattle.std.proofs.lemmas.Bool.{lt-ltb, le-ltb, lt-leb, ltb-true, ltb-false, leb-false, ne_eqb, eqb-false, or_parts}
 use Rattle.std.proofs.lemmas.List.{drop_at, take_at, take_all, length-take-le, take-append-drop}
@@ -33,12 +33,25 @@ pub record IsWireType (kind : ℕ) : Type 0 where
   pub no_start : kind ≢ 3
   pub no_end : kind ≢ 4
 
+-- a wire type in numbers
+IsWireType-from : (kind : ℕ) → kind < 6 → (kind < 3) ⊎ (4 < kind) → IsWireType kind
+IsWireType-from kind low (inl below) = record {
+  low = low;
+  no_start = λ is. absurd (omega (arith, is, below));
+  no_end = λ is. absurd (omega (arith, is, below));
+}
+IsWireType-from kind low (inr above) = record {
+  low = low;
+  no_start = λ is. absurd (omega (arith, is, above));
+  no_end = λ is. absurd (omega (arith, is, above));
+}
+
 -- each payload has one
 pub IsWireType-payload : (payload : Payload) → IsWireType (wire_type payload)
-IsWireType-payload (Varint n) = record { low = lit< tt; no_start = λ is. absurd (omega (arith, is)); no_end = λ is. absurd (omega (arith, is)) }
-IsWireType-payload (Fixed64 eight) = record { low = lit< tt; no_start = λ is. absurd (omega (arith, is)); no_end = λ is. absurd (omega (arith, is)) }
-IsWireType-payload (Bytes content) = record { low = lit< tt; no_start = λ is. absurd (omega (arith, is)); no_end = λ is. absurd (omega (arith, is)) }
-IsWireType-payload (Fixed32 four) = record { low = lit< tt; no_start = λ is. absurd (omega (arith, is)); no_end = λ is. absurd (omega (arith, is)) }
+IsWireType-payload (Varint n) = IsWireType-from 0 (omega arith) (inl (omega arith))
+IsWireType-payload (Fixed64 eight) = IsWireType-from 1 (omega arith) (inl (omega arith))
+IsWireType-payload (Bytes content) = IsWireType-from 2 (omega arith) (inl (omega arith))
+IsWireType-payload (Fixed32 four) = IsWireType-from 5 (omega arith) (inr (omega arith))
 
 -- what holds of each wire type
 by_type : (P : ℕ → Type 0) → P 0 → P 1 → P 2 → P 5 → (kind : ℕ) → IsWireType kind → P kind
@@ -107,16 +120,20 @@ IsTag-field field is =
 -- the payload that bytes spell is read, whatever follows
 front_payload-spelled : (bytes rest : List ℕ) (payload : Payload) → SpellsPayload bytes payload →
     front_payload (wire_type payload) (bytes ++ rest) ≡ Ok (payload, length bytes)
-front_payload-spelled bytes rest (Varint n) s = ap (λ answer. varint_payload answer) (front_number-spelled bytes rest n s)
+front_payload-spelled bytes rest (Varint n) s =
+    ap (λ answer. varint_payload answer) (front_number-spelled bytes rest n s)
 front_payload-spelled bytes rest (Fixed64 eight) s =
     let long : length (eight ++ rest) ≡ length eight + length rest = length-append eight rest in
     rw (s.0, le-ltb (length (eight ++ rest)) 8 (omega (arith, long, s.1)), take_at eight rest 8 s.1, s.1) refl
 front_payload-spelled bytes rest (Bytes content) s =
     let size : List ℕ = s.0 in
-    let same : bytes ++ rest ≡ size ++ (content ++ rest) = ap (λ front. front ++ rest) s.1 ∙ append_assoc size content rest in
-    let long : length (size ++ (content ++ rest)) ≡ length size + length (content ++ rest) = length-append size (content ++ rest) in
+    let same : bytes ++ rest ≡ size ++ (content ++ rest) =
+    ap (λ front. front ++ rest) s.1 ∙ append_assoc size content rest in
+    let long : length (size ++ (content ++ rest)) ≡ length size + length (content ++ rest) =
+    length-append size (content ++ rest) in
     let more : length (content ++ rest) ≡ length content + length rest = length-append content rest in
-    let whole : length bytes ≡ length size + length content = ap (λ list. length list) s.1 ∙ length-append size content in
+    let whole : length bytes ≡ length size + length content =
+    ap (λ list. length list) s.1 ∙ length-append size content in
     rw (
       same,
       front_number-spelled size (content ++ rest) (length content) s.2,
@@ -132,10 +149,12 @@ front_payload-spelled bytes rest (Fixed32 four) s =
 
 -- a payload of this wire type was read
 abbrev IsPayloadRead : List ℕ → ℕ → Payload × ℕ → Type 0
-IsPayloadRead bytes kind cut = (cut.1 ≤ length bytes) × (wire_type cut.0 ≡ kind) × SpellsPayload (take cut.1 bytes) cut.0
+IsPayloadRead bytes kind cut =
+    (cut.1 ≤ length bytes) × (wire_type cut.0 ≡ kind) × SpellsPayload (take cut.1 bytes) cut.0
 
 -- a number that is read as a payload
-varint_payload-read : (bytes : List ℕ) (cut : Payload × ℕ) (answer : Result (ℕ × ℕ) WireError) → front_number bytes ≡ answer →
+varint_payload-read : (bytes : List ℕ) (cut : Payload × ℕ) (answer : Result (ℕ × ℕ) WireError) →
+    front_number bytes ≡ answer →
     varint_payload answer ≡ Ok cut → IsPayloadRead bytes 0 cut
 varint_payload-read bytes cut (Err error) found is = absurd (err_ok is)
 varint_payload-read bytes cut (Ok (n, size)) found is =
@@ -144,43 +163,55 @@ varint_payload-read bytes cut (Ok (n, size)) found is =
 
 -- eight bytes that are read as a payload
 eight-read : (bytes : List ℕ) (cut : Payload × ℕ) → sized_payload 8 Fixed64 bytes ≡ Ok cut → IsPayloadRead bytes 1 cut
-eight-read bytes cut is = elim (chosen (nat_lt (length bytes) 8) (Err Short) (Ok (Fixed64 (take 8 bytes), 8)) (Ok cut) is) [
-  | inl both ↦ absurd (err_ok both.1)
-  | inr both ↦
-      let within : 8 ≤ length bytes = ltb-false (length bytes) 8 both.0 in
-      subst (λ (c : Payload × ℕ). IsPayloadRead bytes 1 c) (same_value both.1) (within, refl, (refl, length-take-le 8 bytes within))
-]
+eight-read bytes cut is =
+    elim (chosen (nat_lt (length bytes) 8) (Err Short) (Ok (Fixed64 (take 8 bytes), 8)) (Ok cut) is) [
+      | inl both ↦ absurd (err_ok both.1)
+      | inr both ↦
+          let within : 8 ≤ length bytes = ltb-false (length bytes) 8 both.0 in
+          subst (λ (c : Payload × ℕ). IsPayloadRead bytes 1 c) (same_value both.1)
+          (within, refl, (refl, length-take-le 8 bytes within))
+    ]
 
 -- four bytes that are read as a payload
 four-read : (bytes : List ℕ) (cut : Payload × ℕ) → sized_payload 4 Fixed32 bytes ≡ Ok cut → IsPayloadRead bytes 5 cut
-four-read bytes cut is = elim (chosen (nat_lt (length bytes) 4) (Err Short) (Ok (Fixed32 (take 4 bytes), 4)) (Ok cut) is) [
-  | inl both ↦ absurd (err_ok both.1)
-  | inr both ↦
-      let within : 4 ≤ length bytes = ltb-false (length bytes) 4 both.0 in
-      subst (λ (c : Payload × ℕ). IsPayloadRead bytes 5 c) (same_value both.1) (within, refl, (refl, length-take-le 4 bytes within))
-]
+four-read bytes cut is =
+    elim (chosen (nat_lt (length bytes) 4) (Err Short) (Ok (Fixed32 (take 4 bytes), 4)) (Ok cut) is) [
+      | inl both ↦ absurd (err_ok both.1)
+      | inr both ↦
+          let within : 4 ≤ length bytes = ltb-false (length bytes) 4 both.0 in
+          subst (λ (c : Payload × ℕ). IsPayloadRead bytes 5 c) (same_value both.1)
+          (within, refl, (refl, length-take-le 4 bytes within))
+    ]
 
 -- bytes after their length that are read as a payload
-counted_payload-read : (bytes : List ℕ) (cut : Payload × ℕ) (answer : Result (ℕ × ℕ) WireError) → front_number bytes ≡ answer →
+counted_payload-read : (bytes : List ℕ) (cut : Payload × ℕ) (answer : Result (ℕ × ℕ) WireError) →
+    front_number bytes ≡ answer →
     counted_payload bytes answer ≡ Ok cut → IsPayloadRead bytes 2 cut
 counted_payload-read bytes cut (Err error) found is = absurd (err_ok is)
 counted_payload-read bytes cut (Ok (count, size)) found is =
     let read = front_number-read bytes count size found in
-    elim (chosen (nat_lt (length bytes) (size + count)) (Err Short) (Ok (Bytes (take count (drop size bytes)), size + count)) (Ok cut) is) [
+    let payload : Payload × ℕ = (Bytes (take count (drop size bytes)), size + count) in
+    elim (chosen (nat_lt (length bytes) (size + count)) (Err Short) (Ok payload) (Ok cut) is) [
       | inl both ↦ absurd (err_ok both.1)
       | inr both ↦
           let within : size + count ≤ length bytes = ltb-false (length bytes) (size + count) both.0 in
           let left : length (drop size bytes) ≡ length bytes - size = length-drop size bytes in
-          let many : length (take count (drop size bytes)) ≡ count = length-take-le count (drop size bytes) (omega (arith, left, within)) in
+          let many : length (take count (drop size bytes)) ≡ count =
+          length-take-le count (drop size bytes) (omega (arith, left, within)) in
           subst (λ (c : Payload × ℕ). IsPayloadRead bytes 2 c) (same_value both.1) (
             within,
             refl,
-            (take size bytes, take-add size count bytes, subst (λ (n : ℕ). SpellsNumber (take size bytes) n) (sym many) read.1),
+            (
+              take size bytes,
+              take-add size count bytes,
+              subst (λ (n : ℕ). SpellsNumber (take size bytes) n) (sym many) read.1,
+            ),
           )
     ]
 
 -- a payload that is read was spelled
-front_payload-read : (bytes : List ℕ) (cut : Payload × ℕ) (kind : ℕ) → IsWireType kind → front_payload kind bytes ≡ Ok cut →
+front_payload-read : (bytes : List ℕ) (cut : Payload × ℕ) (kind : ℕ) → IsWireType kind →
+    front_payload kind bytes ≡ Ok cut →
     IsPayloadRead bytes kind cut
 front_payload-read bytes cut kind =
     by_type (λ k. front_payload k bytes ≡ Ok cut → IsPayloadRead bytes k cut)
@@ -188,10 +219,13 @@ front_payload-read bytes cut kind =
     (λ is. counted_payload-read bytes cut (front_number bytes) refl is) (λ is. four-read bytes cut is) kind
 
 -- what is refused as a payload is answered so
-front_payload-refused : (kind : ℕ) (bytes : List ℕ) (error : WireError) → RefusesPayload kind bytes error → front_payload kind bytes ≡ Err error
-front_payload-refused kind bytes error (no_varint is) = ap (λ answer. varint_payload answer) (front_number-refused bytes error is)
+front_payload-refused : (kind : ℕ) (bytes : List ℕ) (error : WireError) → RefusesPayload kind bytes error →
+    front_payload kind bytes ≡ Err error
+front_payload-refused kind bytes error (no_varint is) =
+    ap (λ answer. varint_payload answer) (front_number-refused bytes error is)
 front_payload-refused kind bytes error (not_eight few) = rw (lt-ltb (length bytes) 8 few) refl
-front_payload-refused kind bytes error (no_length is) = ap (λ answer. counted_payload bytes answer) (front_number-refused bytes error is)
+front_payload-refused kind bytes error (no_length is) =
+    ap (λ answer. counted_payload bytes answer) (front_number-refused bytes error is)
 front_payload-refused kind bytes error (cut_off {size} {count} content spelled few) =
     let long : length (size ++ content) ≡ length size + length content = length-append size content in
     ap (λ answer. counted_payload (size ++ content) answer) (front_number-spelled size content count spelled)
@@ -199,32 +233,43 @@ front_payload-refused kind bytes error (cut_off {size} {count} content spelled f
 front_payload-refused kind bytes error (not_four few) = rw (lt-ltb (length bytes) 4 few) refl
 
 -- an error of a number as a payload
-varint_payload-refuses : (bytes : List ℕ) (error : WireError) (answer : Result (ℕ × ℕ) WireError) → front_number bytes ≡ answer →
+varint_payload-refuses : (bytes : List ℕ) (error : WireError) (answer : Result (ℕ × ℕ) WireError) →
+    front_number bytes ≡ answer →
     varint_payload answer ≡ Err error → RefusesPayload 0 bytes error
-varint_payload-refuses bytes error (Err other) found is = no_varint (front_number-refuses bytes error (found ∙ ap (λ e. Err e) (same_error is)))
+varint_payload-refuses bytes error (Err other) found is =
+    no_varint (front_number-refuses bytes error (found ∙ ap (λ e. Err e) (same_error is)))
 varint_payload-refuses bytes error (Ok (n, size)) found is = absurd (err_ok (sym is))
 
 -- an error of eight bytes
-eight-refuses : (bytes : List ℕ) (error : WireError) → sized_payload 8 Fixed64 bytes ≡ Err error → RefusesPayload 1 bytes error
-eight-refuses bytes error is = elim (chosen (nat_lt (length bytes) 8) (Err Short) (Ok (Fixed64 (take 8 bytes), 8)) (Err error) is) [
-  | inl both ↦ subst (λ (e : WireError). RefusesPayload 1 bytes e) (same_error both.1) (not_eight (ltb-true (length bytes) 8 both.0))
-  | inr both ↦ absurd (err_ok (sym both.1))
-]
+eight-refuses : (bytes : List ℕ) (error : WireError) → sized_payload 8 Fixed64 bytes ≡ Err error →
+    RefusesPayload 1 bytes error
+eight-refuses bytes error is =
+    elim (chosen (nat_lt (length bytes) 8) (Err Short) (Ok (Fixed64 (take 8 bytes), 8)) (Err error) is) [
+      | inl both ↦ subst (λ (e : WireError). RefusesPayload 1 bytes e) (same_error both.1)
+          (not_eight (ltb-true (length bytes) 8 both.0))
+      | inr both ↦ absurd (err_ok (sym both.1))
+    ]
 
 -- an error of four bytes
-four-refuses : (bytes : List ℕ) (error : WireError) → sized_payload 4 Fixed32 bytes ≡ Err error → RefusesPayload 5 bytes error
-four-refuses bytes error is = elim (chosen (nat_lt (length bytes) 4) (Err Short) (Ok (Fixed32 (take 4 bytes), 4)) (Err error) is) [
-  | inl both ↦ subst (λ (e : WireError). RefusesPayload 5 bytes e) (same_error both.1) (not_four (ltb-true (length bytes) 4 both.0))
-  | inr both ↦ absurd (err_ok (sym both.1))
-]
+four-refuses : (bytes : List ℕ) (error : WireError) → sized_payload 4 Fixed32 bytes ≡ Err error →
+    RefusesPayload 5 bytes error
+four-refuses bytes error is =
+    elim (chosen (nat_lt (length bytes) 4) (Err Short) (Ok (Fixed32 (take 4 bytes), 4)) (Err error) is) [
+      | inl both ↦ subst (λ (e : WireError). RefusesPayload 5 bytes e) (same_error both.1)
+          (not_four (ltb-true (length bytes) 4 both.0))
+      | inr both ↦ absurd (err_ok (sym both.1))
+    ]
 
 -- an error of bytes after their length
-counted_payload-refuses : (bytes : List ℕ) (error : WireError) (answer : Result (ℕ × ℕ) WireError) → front_number bytes ≡ answer →
+counted_payload-refuses : (bytes : List ℕ) (error : WireError) (answer : Result (ℕ × ℕ) WireError) →
+    front_number bytes ≡ answer →
     counted_payload bytes answer ≡ Err error → RefusesPayload 2 bytes error
-counted_payload-refuses bytes error (Err other) found is = no_length (front_number-refuses bytes error (found ∙ ap (λ e. Err e) (same_error is)))
+counted_payload-refuses bytes error (Err other) found is =
+    no_length (front_number-refuses bytes error (found ∙ ap (λ e. Err e) (same_error is)))
 counted_payload-refuses bytes error (Ok (count, size)) found is =
     let read = front_number-read bytes count size found in
-    elim (chosen (nat_lt (length bytes) (size + count)) (Err Short) (Ok (Bytes (take count (drop size bytes)), size + count)) (Err error) is) [
+    let payload : Payload × ℕ = (Bytes (take count (drop size bytes)), size + count) in
+    elim (chosen (nat_lt (length bytes) (size + count)) (Err Short) (Ok payload) (Err error) is) [
       | inl both ↦
           let few : length bytes < size + count = ltb-true (length bytes) (size + count) both.0 in
           let left : length (drop size bytes) ≡ length bytes - size = length-drop size bytes in
@@ -236,7 +281,8 @@ counted_payload-refuses bytes error (Ok (count, size)) found is =
     ]
 
 -- an error of a payload is refused
-front_payload-refuses : (bytes : List ℕ) (error : WireError) (kind : ℕ) → IsWireType kind → front_payload kind bytes ≡ Err error →
+front_payload-refuses : (bytes : List ℕ) (error : WireError) (kind : ℕ) → IsWireType kind →
+    front_payload kind bytes ≡ Err error →
     RefusesPayload kind bytes error
 front_payload-refuses bytes error kind =
     by_type (λ k. front_payload k bytes ≡ Err error → RefusesPayload k bytes error)
@@ -244,24 +290,31 @@ front_payload-refuses bytes error kind =
     (λ is. counted_payload-refuses bytes error (front_number bytes) refl is) (λ is. four-refuses bytes error is) kind
 
 -- the field behind a tag, by its parts
-field_behind-parts : (tag number kind size more : ℕ) (bytes left : List ℕ) (payload : Payload) → tag_fault tag ≡ None → tag / 8 ≡ number →
+field_behind-parts : (tag number kind size more : ℕ) (bytes left : List ℕ) (payload : Payload) →
+    tag_fault tag ≡ None → tag / 8 ≡ number →
     tag % 8 ≡ kind → drop size bytes ≡ left → front_payload kind left ≡ Ok (payload, more) →
     field_behind (Ok (tag, size)) bytes ≡ Ok (record { number = number; value = payload }, size + more)
 field_behind-parts tag number kind size more bytes left payload none is_number is_kind is_left read =
     rw (none, is_number, is_kind, is_left, read) refl
 
 -- the field that bytes spell is read, whatever follows
-pub front_field-spelled : (bytes rest : List ℕ) (field : FieldValue) → SpellsField bytes field → front_field (bytes ++ rest) ≡ Ok (field, length bytes)
+pub front_field-spelled : (bytes rest : List ℕ) (field : FieldValue) → SpellsField bytes field →
+    front_field (bytes ++ rest) ≡ Ok (field, length bytes)
 unfolding front_field
 front_field-spelled bytes rest field s =
     let tag : ℕ = field_tag field in
-    let same : bytes ++ rest ≡ s.tag ++ (s.payload ++ rest) = ap (λ front. front ++ rest) s.joined ∙ append_assoc s.tag s.payload rest in
+    let same : bytes ++ rest ≡ s.tag ++ (s.payload ++ rest) =
+    ap (λ front. front ++ rest) s.joined ∙ append_assoc s.tag s.payload rest in
     let typed = IsWireType-payload field.value in
-    let whole : length bytes ≡ length s.tag + length s.payload = ap (λ list. length list) s.joined ∙ length-append s.tag s.payload in
+    let whole : length bytes ≡ length s.tag + length s.payload =
+    ap (λ list. length list) s.joined ∙ length-append s.tag s.payload in
     ap (λ list. front_field list) same
-    ∙ ap (λ answer. field_behind answer (s.tag ++ (s.payload ++ rest))) (front_number-spelled s.tag (s.payload ++ rest) (field_tag field) s.tagged)
-    ∙ field_behind-parts (field_tag field) field.number (wire_type field.value) (length s.tag) (length s.payload) (s.tag ++ (s.payload ++ rest))
-    (s.payload ++ rest) field.value (tag_fault-none (field_tag field) (IsTag-field field s.numbered)) (omega (arith, typed.low)) (omega (arith, typed.low))
+    ∙ ap (λ answer. field_behind answer (s.tag ++ (s.payload ++ rest)))
+    (front_number-spelled s.tag (s.payload ++ rest) (field_tag field) s.tagged)
+    ∙ field_behind-parts (field_tag field) field.number (wire_type field.value) (length s.tag) (length s.payload)
+    (s.tag ++ (s.payload ++ rest))
+    (s.payload ++ rest) field.value (tag_fault-none (field_tag field) (IsTag-field field s.numbered))
+    (omega (arith, typed.low)) (omega (arith, typed.low))
     (drop_at s.tag (s.payload ++ rest) (length s.tag) refl) (front_payload-spelled s.payload rest field.value s.held)
     ∙ ap (λ size. Ok (field, size)) (sym whole)
 
@@ -271,7 +324,8 @@ IsFieldRead bytes cut = (cut.1 ≤ length bytes) × SpellsField (take cut.1 byte
 
 -- a field that is read was spelled, by its payload
 numbered_field-read : (bytes : List ℕ) (tag size : ℕ) (cut : FieldValue × ℕ) (answer : Result (Payload × ℕ) WireError) →
-    (size ≤ length bytes) × SpellsNumber (take size bytes) tag → IsTag tag → front_payload (tag % 8) (drop size bytes) ≡ answer →
+    (size ≤ length bytes) × SpellsNumber (take size bytes) tag → IsTag tag →
+    front_payload (tag % 8) (drop size bytes) ≡ answer →
     numbered_field (tag / 8) size answer ≡ Ok cut → IsFieldRead bytes cut
 numbered_field-read bytes tag size cut (Err error) read good found is = absurd (err_ok is)
 numbered_field-read bytes tag size cut (Ok (payload, more)) read good found is =
@@ -295,10 +349,12 @@ tagged_field-read : (bytes : List ℕ) (tag size : ℕ) (cut : FieldValue × ℕ
     tagged_field fault tag size bytes ≡ Ok cut → IsFieldRead bytes cut
 tagged_field-read bytes tag size cut (Some error) read found is = absurd (err_ok is)
 tagged_field-read bytes tag size cut None read found is =
-    numbered_field-read bytes tag size cut (front_payload (tag % 8) (drop size bytes)) read (IsTag-from_none tag found) refl is
+    numbered_field-read bytes tag size cut (front_payload (tag % 8) (drop size bytes)) read
+    (IsTag-from_none tag found) refl is
 
 -- by its tag
-field_behind-read : (bytes : List ℕ) (cut : FieldValue × ℕ) (answer : Result (ℕ × ℕ) WireError) → front_number bytes ≡ answer →
+field_behind-read : (bytes : List ℕ) (cut : FieldValue × ℕ) (answer : Result (ℕ × ℕ) WireError) →
+    front_number bytes ≡ answer →
     field_behind answer bytes ≡ Ok cut → IsFieldRead bytes cut
 field_behind-read bytes cut (Err error) found is = absurd (err_ok is)
 field_behind-read bytes cut (Ok (tag, size)) found is =
@@ -311,9 +367,11 @@ unfolding front_field
 front_field-read bytes field size is = field_behind-read bytes (field, size) (front_number bytes) refl is
 
 -- what is refused as a field is answered so
-pub front_field-refused : (bytes : List ℕ) (error : WireError) → RefusesField bytes error → front_field bytes ≡ Err error
+pub front_field-refused : (bytes : List ℕ) (error : WireError) → RefusesField bytes error →
+    front_field bytes ≡ Err error
 unfolding front_field
-front_field-refused bytes error (no_tag is) = ap (λ answer. field_behind answer bytes) (front_number-refused bytes error is)
+front_field-refused bytes error (no_tag is) =
+    ap (λ answer. field_behind answer bytes) (front_number-refused bytes error is)
 front_field-refused bytes error (bad_tag {tag} {n} rest spelled fault) =
     ap (λ answer. field_behind answer (tag ++ rest)) (front_number-spelled tag rest n spelled)
     ∙ ap (λ found. tagged_field found n (length tag) (tag ++ rest)) fault
@@ -325,13 +383,16 @@ front_field-refused bytes error (no_payload {tag} {n} rest spelled none is) =
 
 -- an error of a field is refused, by its payload
 numbered_field-refuses : (bytes : List ℕ) (tag size : ℕ) (error : WireError) (answer : Result (Payload × ℕ) WireError) →
-    (size ≤ length bytes) × SpellsNumber (take size bytes) tag → tag_fault tag ≡ None → front_payload (tag % 8) (drop size bytes) ≡ answer →
+    (size ≤ length bytes) × SpellsNumber (take size bytes) tag → tag_fault tag ≡ None →
+    front_payload (tag % 8) (drop size bytes) ≡ answer →
     numbered_field (tag / 8) size answer ≡ Err error → RefusesField bytes error
 numbered_field-refuses bytes tag size error (Ok (payload, more)) read none found is = absurd (err_ok (sym is))
 numbered_field-refuses bytes tag size error (Err other) read none found is =
     let good = IsTag-from_none tag none in
-    let refused = front_payload-refuses (drop size bytes) error (tag % 8) good.typed (found ∙ ap (λ e. Err e) (same_error is)) in
-    subst (λ (list : List ℕ). RefusesField list error) (take-append-drop size bytes) (no_payload (drop size bytes) read.1 none refused)
+    let refused =
+    front_payload-refuses (drop size bytes) error (tag % 8) good.typed (found ∙ ap (λ e. Err e) (same_error is)) in
+    subst (λ (list : List ℕ). RefusesField list error) (take-append-drop size bytes)
+    (no_payload (drop size bytes) read.1 none refused)
 
 -- by the fault of its tag
 tagged_field-refuses : (bytes : List ℕ) (tag size : ℕ) (error : WireError) (fault : Option WireError) →
@@ -344,14 +405,17 @@ tagged_field-refuses bytes tag size error None read found is =
     numbered_field-refuses bytes tag size error (front_payload (tag % 8) (drop size bytes)) read found refl is
 
 -- by its tag
-field_behind-refuses : (bytes : List ℕ) (error : WireError) (answer : Result (ℕ × ℕ) WireError) → front_number bytes ≡ answer →
+field_behind-refuses : (bytes : List ℕ) (error : WireError) (answer : Result (ℕ × ℕ) WireError) →
+    front_number bytes ≡ answer →
     field_behind answer bytes ≡ Err error → RefusesField bytes error
-field_behind-refuses bytes error (Err other) found is = no_tag (front_number-refuses bytes error (found ∙ ap (λ e. Err e) (same_error is)))
+field_behind-refuses bytes error (Err other) found is =
+    no_tag (front_number-refuses bytes error (found ∙ ap (λ e. Err e) (same_error is)))
 field_behind-refuses bytes error (Ok (tag, size)) found is =
     tagged_field-refuses bytes tag size error (tag_fault tag) (front_number-read bytes tag size found) refl is
 
 -- an error of a field is refused
-pub front_field-refuses : (bytes : List ℕ) (error : WireError) → front_field bytes ≡ Err error → RefusesField bytes error
+pub front_field-refuses : (bytes : List ℕ) (error : WireError) → front_field bytes ≡ Err error →
+    RefusesField bytes error
 unfolding front_field
 front_field-refuses bytes error is = field_behind-refuses bytes error (front_number bytes) refl is
 
@@ -359,7 +423,8 @@ front_field-refuses bytes error is = field_behind-refuses bytes error (front_num
 pub SpellsField-some : (bytes : List ℕ) (field : FieldValue) → SpellsField bytes field → 0 < length bytes
 SpellsField-some bytes field s =
     let some = SpellsNumber-some s.tag (field_tag field) s.tagged in
-    let whole : length bytes ≡ length s.tag + length s.payload = ap (λ list. length list) s.joined ∙ length-append s.tag s.payload in
+    let whole : length bytes ≡ length s.tag + length s.payload =
+    ap (λ list. length list) s.joined ∙ length-append s.tag s.payload in
     omega (arith, some, whole)
 
 -- fields are read as they are spelled

@@ -2,7 +2,7 @@
 use Rattle.std.proofs.Common.{◌≡◌, ◌∙◌, ◌<◌, ◌≤◌, ◌-◌, ◌+◌, ◌++◌, ◌∷◌, [], ℕ, zero, suc, List, Option, Result, Ok, Err, Some, None, length, take, drop, refl, ap, sym, subst, sub-one, arith, append_assoc, length-append, length-drop}
 use Rattle.std.proofs.lemmas.List.{drop_at, length-take-le, take-append-drop}
 use Rattle.osm_entity.specs.Prefixes.{IsPrefix}
-use Rattle.osm_wire.specs.Fronts.{Front, IsAfterFront, IsGoodFront, SpellsAll, empty_front, front_after, front_of, in_front, refused_front}
+use Rattle.osm_wire.specs.Fronts.{Front, IsAfterFront, IsGoodFront, SpellsAll, front_after, front_of, in_front, refused_front}
 use Rattle.osm_wire.specs.declared.error.WireError.{WireError}
 
 -- what is skipped is dropped
@@ -50,7 +50,8 @@ module _ {T : Type 0} (first : List ℕ → Result (T × ℕ) WireError) (Spelle
   spelled-next bytes rest item is =
       let some : 0 < length bytes = reads.some bytes item is in
       let long : length (bytes ++ rest) ≡ length bytes + length rest = length-append bytes rest in
-      front_of-next first (bytes ++ rest) item (length bytes) (omega (arith, some, long)) some (reads.spelled bytes rest item is)
+      front_of-next first (bytes ++ rest) item (length bytes) (omega (arith, some, long)) some
+      (reads.spelled bytes rest item is)
       ∙ ap (λ left. in_front item (front_of first left)) (drop_at bytes rest (length bytes) refl)
 
   -- what follows the good front has no pieces
@@ -66,12 +67,14 @@ module _ {T : Type 0} (first : List ℕ → Result (T × ℕ) WireError) (Spelle
   front_of-spelled [] before rest fault all is =
       ap (λ bytes. front_of first (bytes ++ rest)) all ∙ after-none rest fault is
   front_of-spelled (item ∷ items) before rest fault all is =
-      let same : before ++ rest ≡ all.0 ++ (all.1 ++ rest) = ap (λ bytes. bytes ++ rest) all.2 ∙ append_assoc all.0 all.1 rest in
+      let same : before ++ rest ≡ all.0 ++ (all.1 ++ rest) =
+      ap (λ bytes. bytes ++ rest) all.2 ∙ append_assoc all.0 all.1 rest in
       ap (λ bytes. front_of first bytes) same ∙ spelled-next all.0 (all.1 ++ rest) item all.3
       ∙ ap (λ front. in_front item front) (front_of-spelled items all.1 rest fault all.4 is)
 
   -- a list that spells a prefix is a prefix of the pieces
-  pub front_of-longest : (items : List T) (bytes some others : List ℕ) → bytes ≡ some ++ others → SpellsAll Spelled some items →
+  pub front_of-longest : (items : List T) (bytes some others : List ℕ) → bytes ≡ some ++ others →
+      SpellsAll Spelled some items →
       IsPrefix items (front_of first bytes).items
   front_of-longest [] bytes some others joined all = record { rest = (front_of first bytes).items; joined = refl }
   front_of-longest (item ∷ items) bytes some others joined all =
@@ -83,14 +86,17 @@ module _ {T : Type 0} (first : List ℕ → Result (T × ℕ) WireError) (Spelle
 
   -- the pieces spell a prefix, and what follows is refused
   abbrev IsCut : List ℕ → Front T → Type 0
-  IsCut bytes front = (before rest : List ℕ) × (bytes ≡ before ++ rest) × SpellsAll Spelled before front.items × IsAfterFront Refused rest front.fault
+  IsCut bytes front =
+      (before rest : List ℕ) × (bytes ≡ before ++ rest) × SpellsAll Spelled before front.items
+      × IsAfterFront Refused rest front.fault
 
   -- one piece more at the front
   IsCut-next : (bytes : List ℕ) (item : T) (size : ℕ) → first bytes ≡ Ok (item, size) → 0 < length bytes → 0 < size →
       IsCut (drop size bytes) (front_of first (drop size bytes)) → IsCut bytes (front_of first bytes)
   IsCut-next bytes item size is some more cut =
       let whole : bytes ≡ (take size bytes ++ cut.0) ++ cut.1 =
-      sym (take-append-drop size bytes) ∙ ap (λ left. take size bytes ++ left) cut.2 ∙ sym (append_assoc (take size bytes) cut.0 cut.1) in
+      sym (take-append-drop size bytes) ∙ ap (λ left. take size bytes ++ left) cut.2
+      ∙ sym (append_assoc (take size bytes) cut.0 cut.1) in
       subst (λ (front : Front T). IsCut bytes front) (sym (front_of-next first bytes item size some more is)) (
         take size bytes ++ cut.0,
         cut.1,

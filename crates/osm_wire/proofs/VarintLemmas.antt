@@ -1,5 +1,5 @@
 -- How the number at the front of bytes follows from its bytes, one more at a time.
-use Rattle.std.proofs.Common.{◌≡◌, ◌∙◌, ◌<◌, ◌≤◌, ◌-◌, ◌+◌, ◌*◌, ◌%◌, ◌^◌, ◌++◌, ◌∷◌, [], ℕ, Bool, true, false, List, Option, Some, None, Ok, Err, length, take, get_or, suc, refl, ap, sym, subst, inl, inr, lit<, lit≤, arith, mul_assoc, length-take, length-append, ◌⊎◌}
+use Rattle.std.proofs.Common.{◌≡◌, ◌∙◌, ◌<◌, ◌≤◌, ◌-◌, ◌+◌, ◌*◌, ◌%◌, ◌^◌, ◌++◌, ◌∷◌, [], ℕ, Bool, true, false, List, Option, Some, None, Ok, Err, length, take, get_or, suc, refl, ap, sym, subst, inl, inr, lit<, arith, mul_assoc, length-take, length-append, ◌⊎◌}
 use Rattle.std.specs.Prelude.{Result, nat_lt, min, if◌then◌else◌}
 use Rattle.std.specs.List.{position, position_or_len}
 use Rattle.std.specs.Result.{result_unwrap_or}
@@ -8,7 +8,7 @@ use Rattle.std.proofs.lemmas.List.{take_more, take_at, take_all, get_or-take, ge
 use Rattle.std.proofs.lemmas.List.Quantifiers.{position-Some}
 use Rattle.std.proofs.lemmas.List.Sums.{position_or_len_is, fails_before_first}
 use Rattle.std.proofs.lemmas.Nat.{pow-add, mul-le}
-use Rattle.std.proofs.Math.Nat.{mod-eq_of_lt, mod-le}
+use Rattle.std.proofs.Math.Nat.{mod-eq_of_lt}
 use Rattle.std.proofs.Math.Pow.{pow_mono}
 use Rattle.osm_wire.specs.Refusals.{RefusesNumber}
 use Rattle.osm_wire.specs.Varints.{SpellsNumber, varint_value, is_last_byte, front_number, number_ending, number_fitting}
@@ -65,18 +65,21 @@ position-at bytes size within more ends =
 pub position-none : (bytes : List ℕ) → GoOn bytes (length bytes) → position is_last_byte bytes ≡ None
 position-none bytes more =
     let first : position_or_len is_last_byte bytes ≡ length bytes =
-    position_or_len_is is_last_byte bytes (length bytes) 0 (omega arith) more (λ within. absurd (omega (arith, within))) in
+    position_or_len_is is_last_byte bytes (length bytes) 0 (omega arith) more
+    (λ within. absurd (omega (arith, within))) in
     rw (first, le-ltb (length bytes) (length bytes) (omega arith)) refl
 
 -- which way a choice went
-pub chosen : {X : Type 0} (b : Bool) (x y z : X) → (if b then x else y) ≡ z → ((b ≡ true) × (x ≡ z)) ⊎ ((b ≡ false) × (y ≡ z))
+pub chosen : {X : Type 0} (b : Bool) (x y z : X) → (if b then x else y) ≡ z →
+    ((b ≡ true) × (x ≡ z)) ⊎ ((b ≡ false) × (y ≡ z))
 chosen true x y z is = inl (refl, is)
 chosen false x y z is = inr (refl, is)
 
 -- all bytes go on, where there is none below 128
 pub none-goes_on : (bytes : List ℕ) → position is_last_byte bytes ≡ None → GoOn bytes (length bytes)
 none-goes_on bytes none k below =
-    elim (chosen (nat_lt (position_or_len is_last_byte bytes) (length bytes)) (Some (position_or_len is_last_byte bytes)) None None none) [
+    let first : ℕ = position_or_len is_last_byte bytes in
+    elim (chosen (nat_lt first (length bytes)) (Some first) None None none) [
       | inl both ↦ cc
       | inr both ↦
           let far = ltb-false (position_or_len is_last_byte bytes) (length bytes) both.0 in
@@ -85,7 +88,8 @@ none-goes_on bytes none k below =
 
 -- the bytes of a front of bytes are those of the bytes
 pub take-GoOn : (bytes : List ℕ) (count size : ℕ) → size ≤ count → GoOn bytes size → GoOn (take count bytes) size
-take-GoOn bytes count size within more k below = rw (get_or-take count bytes k 0 (omega (arith, below, within))) (more k below)
+take-GoOn bytes count size within more k below =
+    rw (get_or-take count bytes k 0 (omega (arith, below, within))) (more k below)
 
 -- and the other way round
 pub GoOn-take : (bytes : List ℕ) (count size : ℕ) → size ≤ count → GoOn (take count bytes) size → GoOn bytes size
@@ -124,7 +128,8 @@ front_number-one bytes within ends =
     (omega (arith, varint_value_more bytes 0 within, ends)) (omega (arith, ends))
 
 -- nine bytes that go on and a tenth of at most 1 are a number
-pub front_number-ten : (bytes : List ℕ) (number tenth : ℕ) → 9 < length bytes → position is_last_byte (take 9 bytes) ≡ None →
+pub front_number-ten : (bytes : List ℕ) (number tenth : ℕ) → 9 < length bytes →
+    position is_last_byte (take 9 bytes) ≡ None →
     number ≡ varint_value (take 9 bytes) → number < 2 ^ 63 → get_or bytes 9 0 ≡ tenth → tenth ≤ 1 →
     front_number bytes ≡ Ok (number + tenth * 2 ^ 63, 10)
 front_number-ten bytes number tenth within none value small is least =
@@ -154,7 +159,8 @@ number_more bytes size number short within value small =
     )
 
 -- fewer than ten bytes that go on are short
-pub front_number-short : (bytes : List ℕ) → length bytes < 10 → position is_last_byte bytes ≡ None → front_number bytes ≡ Err Short
+pub front_number-short : (bytes : List ℕ) → length bytes < 10 → position is_last_byte bytes ≡ None →
+    front_number bytes ≡ Err Short
 unfolding front_number
 front_number-short bytes few none =
     rw (take_all 10 bytes (omega (arith, few)), none, lt-ltb (length bytes) 10 few) refl
@@ -181,19 +187,22 @@ front_number-overlong bytes within none much =
           rw (found, le-ltb (varint_value (take 10 bytes)) (2 ^ 64) (overlong_value bytes within much ends)) refl
       | inr goes_on ↦
           let none_of_ten : position is_last_byte (take 10 bytes) ≡ None =
-          position-none (take 10 bytes) (rw ten (take-GoOn bytes 10 10 (omega arith) (GoOn-more bytes 9 more goes_on))) in
+          position-none (take 10 bytes)
+          (rw ten (take-GoOn bytes 10 10 (omega arith) (GoOn-more bytes 9 more goes_on))) in
           rw (none_of_ten, le-ltb (length bytes) 10 (omega (arith, within))) refl
     ]
 
 -- what is refused is answered so
-pub front_number-refused : (bytes : List ℕ) (error : WireError) → RefusesNumber bytes error → front_number bytes ≡ Err error
+pub front_number-refused : (bytes : List ℕ) (error : WireError) → RefusesNumber bytes error →
+    front_number bytes ≡ Err error
 front_number-refused bytes Short is = front_number-short bytes is.0 is.1
 front_number-refused bytes Overlong is = front_number-overlong bytes is.0 is.1 is.2
 front_number-refused bytes BadWire is = absurd is
 front_number-refused bytes Group is = absurd is
 
 -- what bytes spell is read, whatever follows
-pub front_number-spelled : (bytes rest : List ℕ) (n : ℕ) → SpellsNumber bytes n → front_number (bytes ++ rest) ≡ Ok (n, length bytes)
+pub front_number-spelled : (bytes rest : List ℕ) (n : ℕ) → SpellsNumber bytes n →
+    front_number (bytes ++ rest) ≡ Ok (n, length bytes)
 front_number-spelled bytes rest n s =
     let before : ℕ = length bytes - 1 in
     let first = position-Some is_last_byte bytes before 0 s.ended in
@@ -235,9 +244,11 @@ ending-read bytes n size (Some last) found read =
     let is = fitting-read (varint_value (take (last + 1) bytes)) (last + 1) n size read in
     let first = position-Some is_last_byte (take 10 bytes) last 0 found in
     let ten : length (take 10 bytes) ≡ min 10 (length bytes) = length-take 10 bytes in
-    let long : length (take (last + 1) bytes) ≡ last + 1 = length-take-le (last + 1) bytes (omega (arith, first.0, ten)) in
+    let long : length (take (last + 1) bytes) ≡ last + 1 =
+    length-take-le (last + 1) bytes (omega (arith, first.0, ten)) in
     let same : (k : ℕ) → k < last + 1 → get_or (take (last + 1) bytes) k 0 ≡ get_or (take 10 bytes) k 0 =
-    λ k below. get_or-take (last + 1) bytes k 0 below ∙ sym (get_or-take 10 bytes k 0 (omega (arith, below, first.0, ten))) in
+    λ k below. get_or-take (last + 1) bytes k 0 below
+    ∙ sym (get_or-take 10 bytes k 0 (omega (arith, below, first.0, ten))) in
     let ended : position is_last_byte (take (last + 1) bytes) ≡ Some last =
     position-at (take (last + 1) bytes) last (omega (arith, long))
     (λ k below. rw (same k (omega (arith, below))) (first.2 k below)) (rw (same last (omega arith)) first.1) in
@@ -295,19 +306,22 @@ ending-refuses bytes error None found answer =
       | inr both ↦
           let many : 10 ≤ length bytes = ltb-false (length bytes) 10 both.0 in
           let ten : length (take 10 bytes) ≡ 10 = length-take-le 10 bytes many in
-          let more : GoOn bytes 10 = GoOn-take bytes 10 10 (omega arith) (rw ten at (none-goes_on (take 10 bytes) found)) in
+          let more : GoOn bytes 10 =
+          GoOn-take bytes 10 10 (omega arith) (rw ten at (none-goes_on (take 10 bytes) found)) in
           let nine : length (take 9 bytes) ≡ 9 = length-take-le 9 bytes (omega (arith, many)) in
           let high : 128 ≤ get_or bytes 9 0 = ltb-false (get_or bytes 9 0) 128 (more 9 (omega arith)) in
           subst (λ (e : WireError). RefusesNumber bytes e) (same_error both.1) (
             omega (arith, many),
-            position-none (take 9 bytes) (rw nine (take-GoOn bytes 9 9 (omega arith) (λ k below. more k (omega (arith, below))))),
+            position-none (take 9 bytes)
+                (rw nine (take-GoOn bytes 9 9 (omega arith) (λ k below. more k (omega (arith, below))))),
             omega (arith, high),
           )
     ]
 ending-refuses bytes error (Some last) found answer =
     let first = position-Some is_last_byte (take 10 bytes) last 0 found in
     let ten : length (take 10 bytes) ≡ min 10 (length bytes) = length-take 10 bytes in
-    elim (chosen (nat_lt (varint_value (take (last + 1) bytes)) (2 ^ 64)) (Ok (varint_value (take (last + 1) bytes), last + 1)) (Err Overlong) (Err error) answer) [
+    let value : ℕ = varint_value (take (last + 1) bytes) in
+    elim (chosen (nat_lt value (2 ^ 64)) (Ok (value, last + 1)) (Err Overlong) (Err error) answer) [
       | inl both ↦ absurd (err_ok (sym both.1))
       | inr both ↦
           subst (λ (e : WireError). RefusesNumber bytes e) (same_error both.1)
@@ -317,7 +331,8 @@ ending-refuses bytes error (Some last) found answer =
     ]
 
 -- what is answered as an error is refused
-pub front_number-refuses : (bytes : List ℕ) (error : WireError) → front_number bytes ≡ Err error → RefusesNumber bytes error
+pub front_number-refuses : (bytes : List ℕ) (error : WireError) → front_number bytes ≡ Err error →
+    RefusesNumber bytes error
 unfolding front_number
 front_number-refuses bytes error answer = ending-refuses bytes error (position is_last_byte (take 10 bytes)) refl answer
 

@@ -1,17 +1,16 @@
 -- What is written spells what it is written of, in as few bytes as can be, and is read back.
-use Rattle.std.proofs.Common.{◌≡◌, ◌∙◌, ◌<◌, ◌≤◌, ◌-◌, ◌+◌, ◌*◌, ◌/◌, ◌%◌, ◌^◌, ◌++◌, ◌∷◌, [], ℕ, zero, suc, true, false, List, Option, Some, None, length, set, take, get_or, refl, ap, sym, subst, lit<, lit≤, arith, add-one, sub-one, inl, inr}
+use Rattle.std.proofs.Common.{◌≡◌, ◌∙◌, ◌<◌, ◌≤◌, ◌-◌, ◌+◌, ◌*◌, ◌/◌, ◌%◌, ◌^◌, ◌++◌, ◌∷◌, [], ℕ, zero, suc, List, Some, None, length, set, take, get_or, refl, ap, sym, subst, lit<, arith, add-one, sub-one, inl, inr}
 use Rattle.std.specs.Prelude.{All}
 use Rattle.std.specs.List.{flat_map}
 use Rattle.std.proofs.lemmas.Bool.{lt-ltb, le-ltb, cases_lt}
 use Rattle.std.proofs.lemmas.List.{append-nil, append_assoc, take_more_set}
 use Rattle.std.proofs.lemmas.List.Elements.{All-head, All-tail}
 use Rattle.std.proofs.lemmas.Nat.{pow-add}
-use Rattle.std.proofs.Math.Pow.{pow_mono}
-use Rattle.osm_wire.specs.Entries.{message_fields, unless_refused, whole_front}
-use Rattle.osm_wire.specs.Fronts.{Front, SpellsAll, front_of}
+use Rattle.osm_wire.specs.Entries.{message_fields, whole_front}
+use Rattle.osm_wire.specs.Fronts.{SpellsAll}
 use Rattle.osm_wire.specs.Messages.{FieldValue, Payload, Varint, Fixed64, Bytes, Fixed32, SpellsField, SpellsPayload, field_tag, front_field, good_front, packed_front}
 use Rattle.osm_wire.specs.Refusals.{RefusesField, RefusesNumber}
-use Rattle.osm_wire.specs.Varints.{SpellsNumber, front_number, is_last_byte, varint_value}
+use Rattle.osm_wire.specs.Varints.{SpellsNumber, front_number, varint_value}
 use Rattle.osm_wire.specs.Written.{IsField, IsPayload, packed, shortest_varint, varint_within, written_field, written_message, written_payload}
 use Rattle.osm_wire.proofs.FieldLemmas.{IsTag-field, fields_read, numbers_read}
 use Rattle.osm_wire.proofs.FrontLemmas.{front_of-spelled}
@@ -58,7 +57,8 @@ IsSpelling-more bytes most n s =
 -- the rest after seven bits
 rest-fits : (more n : ℕ) → n < 2 ^ (7 * suc (suc more)) → n / 128 < 2 ^ (7 * suc more)
 rest-fits more n fits =
-    let power : 2 ^ (7 * suc (suc more)) ≡ 2 ^ (7 * suc more) * 128 = ap (λ k. 2 ^ k) (omega arith) ∙ pow-add 2 (7 * suc more) 7 in
+    let power : 2 ^ (7 * suc (suc more)) ≡ 2 ^ (7 * suc more) * 128 =
+    ap (λ k. 2 ^ k) (omega arith) ∙ pow-add 2 (7 * suc more) 7 in
     omega (arith, power, fits)
 
 -- a number is spelled within as many bytes as its bits need
@@ -68,7 +68,8 @@ varint_within-spells (suc more) n fits = elim (cases_lt n 128) [
   | inl small ↦ rw (lt-ltb n 128 small) (IsSpelling-one (suc (suc more)) n (omega arith) small)
   | inr large ↦
       rw (le-ltb n 128 large)
-      (IsSpelling-more (varint_within (suc more) (n / 128)) (suc more) n (varint_within-spells more (n / 128) (rest-fits more n fits)))
+      (IsSpelling-more (varint_within (suc more) (n / 128)) (suc more) n
+      (varint_within-spells more (n / 128) (rest-fits more n fits)))
 ]
 
 -- the shortest varint of a number spells it
@@ -100,13 +101,15 @@ varint_within-shortest (suc more) (suc (suc size)) n some fits = elim (cases_lt 
 ]
 
 -- no spelling of a number has fewer bytes
-pub shortest_varint-shortest : (n : ℕ) (bytes : List ℕ) → SpellsNumber bytes n → length (shortest_varint n) ≤ length bytes
+pub shortest_varint-shortest : (n : ℕ) (bytes : List ℕ) → SpellsNumber bytes n →
+    length (shortest_varint n) ≤ length bytes
 unfolding shortest_varint
 shortest_varint-shortest n bytes s =
     varint_within-shortest 9 (length bytes) n (SpellsNumber-some bytes n s) (rw s.value at (varint_value-small bytes))
 
 -- the lowest seven bits, and then the others
-pub varint_within-more : (left n : ℕ) → 0 < left → 128 ≤ n → varint_within left n ≡ (n % 128 + 128) ∷ varint_within (left - 1) (n / 128)
+pub varint_within-more : (left n : ℕ) → 0 < left → 128 ≤ n →
+    varint_within left n ≡ (n % 128 + 128) ∷ varint_within (left - 1) (n / 128)
 varint_within-more zero n some large = absurd (omega (arith, some))
 varint_within-more (suc left) n some large = rw (le-ltb n 128 large, sub-one) refl
 
@@ -128,6 +131,7 @@ pub varint-step : (n size rest : ℕ) (bytes : List ℕ) → size ≤ 9 → size
     ≡ take (size + 1) (set bytes size (rest % 128 + 128)) ++ varint_within (10 - (size + 1)) (rest / 128))
 varint-step n size rest bytes short within large small value = elim (cases_lt size 9) [
   | inl below ↦
+      let byte : ℕ = rest % 128 + 128 in
       let power : 2 ^ (7 * (10 - size)) ≡ 2 ^ (7 * (10 - (size + 1))) * 128 =
       ap (λ k. 2 ^ k) (omega (arith, below)) ∙ pow-add 2 (7 * (10 - (size + 1))) 7 in
       let next : varint_within (10 - size) rest ≡ (rest % 128 + 128) ∷ varint_within (10 - size - 1) (rest / 128) =
@@ -135,8 +139,11 @@ varint-step n size rest bytes short within large small value = elim (cases_lt si
       let left : 10 - size - 1 ≡ 10 - (size + 1) = omega arith in (
         omega (arith, below),
         omega (arith, power, small),
-        rw (take_more_set bytes size (rest % 128 + 128) within, append_assoc (take size bytes) ((rest % 128 + 128) ∷ []) (varint_within (10 - (size + 1)) (rest / 128)))
-            (value ∙ ap (λ more. take size bytes ++ more) (next ∙ ap (λ k. (rest % 128 + 128) ∷ varint_within k (rest / 128)) left)),
+        rw (
+          take_more_set bytes size byte within,
+          append_assoc (take size bytes) (byte ∷ []) (varint_within (10 - (size + 1)) (rest / 128)),
+        )
+            (value ∙ ap (λ more. take size bytes ++ more) (next ∙ ap (λ k. byte ∷ varint_within k (rest / 128)) left)),
       )
   | inr last ↦
       let nine : size ≡ 9 = omega (arith, short, last) in
@@ -148,7 +155,8 @@ varint-step n size rest bytes short within large small value = elim (cases_lt si
 written_payload-spells : (payload : Payload) → IsPayload payload → SpellsPayload (written_payload payload) payload
 written_payload-spells (Varint n) is = shortest_varint-spells n is
 written_payload-spells (Fixed64 eight) is = (refl, is)
-written_payload-spells (Bytes content) is = (shortest_varint (length content), refl, shortest_varint-spells (length content) is)
+written_payload-spells (Bytes content) is =
+    (shortest_varint (length content), refl, shortest_varint-spells (length content) is)
 written_payload-spells (Fixed32 four) is = (refl, is)
 
 -- a field that can be written is spelled
@@ -186,7 +194,8 @@ written_message-front fields all =
     (SpellsAll-flat_map SpellsField IsField written_field written_field-spells fields all) refl
 
 -- and as a message
-pub written_message-fields : (fields : List FieldValue) → All IsField fields → message_fields (written_message fields) ≡ Some fields
+pub written_message-fields : (fields : List FieldValue) → All IsField fields →
+    message_fields (written_message fields) ≡ Some fields
 written_message-fields fields all = ap (λ front. whole_front front) (written_message-front fields all)
 
 -- packed numbers are read back

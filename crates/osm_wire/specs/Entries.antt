@@ -1,7 +1,7 @@
 -- What the fields of a message say: the last entry of a number, repeated numbers, and bytes in order.
 -- None stands for a message that isn't well formed.
 -- Here the entries of each field are looked up in the whole list; the code goes through the fields once.
-use Rattle.std.specs.Prelude.{ℕ, List, [], ◌∷◌, ◌++◌, ◌==◌, Option, Some, None, map, filter}
+use Rattle.std.specs.Prelude.{ℕ, List, [], ◌∷◌, ◌==◌, Option, Some, None, map, filter}
 use Rattle.std.specs.List.{concat}
 use Rattle.std.specs.Option.{option_map}
 use Rattle.osm_wire.specs.declared.error.WireError.{WireError}

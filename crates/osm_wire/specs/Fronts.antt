@@ -49,7 +49,7 @@ abbrev pub IsAfterFront : (List ℕ → WireError → Type 0) → List ℕ → O
 IsAfterFront refuses rest None = rest ≡ []
 IsAfterFront refuses rest (Some error) = (0 < length rest) × refuses rest error
 
--- the good front of bytes: its pieces spell a prefix of them, what follows is refused, and no longer list spells a prefix
+-- the good front of bytes: it spells a prefix of them, no longer list of pieces does, and what follows is refused
 pub record IsGoodFront {T : Type 0} (spells : List ℕ → T → Type 0) (refuses : List ℕ → WireError → Type 0)
     (bytes : List ℕ) (front : Front T) : Type 0 where
   pub before : List ℕ

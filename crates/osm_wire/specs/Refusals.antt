@@ -1,6 +1,6 @@
 -- Why bytes begin with no field: what the code answers where it cuts no further.
 -- Here bytes are looked at whole, and parted as a field is spelled; the code stops where it can't go on.
-use Rattle.std.specs.Prelude.{ℕ, ◌+◌, ◌%◌, ◌≡◌, ◌<◌, List, ◌++◌, Some, None, length, take, slice_index}
+use Rattle.std.specs.Prelude.{ℕ, ◌%◌, ◌≡◌, ◌<◌, List, ◌++◌, Some, None, length, take, slice_index}
 use Rattle.std.specs.List.{position}
 use Rattle.osm_wire.specs.declared.error.WireError.{WireError}
 use Rattle.osm_wire.specs.declared.error.WireError.TheVariants.{Short, Overlong, Group, BadWire}
@@ -16,7 +16,7 @@ RefusesNumber bytes Overlong =
 RefusesNumber bytes Group = ⊥
 RefusesNumber bytes BadWire = ⊥
 
--- bytes hold no payload of a wire type: it is no varint, they are fewer than eight or four, or fewer than their length says
+-- bytes hold no payload of a wire type: no varint, too few bytes, no length, or fewer bytes than it says
 pub data RefusesPayload : ℕ → List ℕ → WireError → Type 0 where
   no_varint : {bytes : List ℕ} {error : WireError} → RefusesNumber bytes error → RefusesPayload 0 bytes error
   not_eight : {bytes : List ℕ} → length bytes < 8 → RefusesPayload 1 bytes Short

@@ -1,4 +1,4 @@
-use Rattle.std.proofs.Common.{◌≡◌, ◌∙◌, ◌<◌, length, ap, sym, refl, arith}
+use Rattle.std.proofs.Common.{◌∙◌, ◌<◌, length, ap, sym, refl, arith}
 use Rattle.std.proofs.lemmas.List.{take_rest}
 use Rattle.osm_wire.specs.Fronts.{in_front}
 use Rattle.osm_wire.specs.Messages.{packed_front}
