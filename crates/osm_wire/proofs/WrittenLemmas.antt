@@ -12,9 +12,11 @@ use Rattle.osm_wire.specs.Messages.{FieldValue, Payload, Varint, Fixed64, Bytes,
 use Rattle.osm_wire.specs.Refusals.{RefusesField, RefusesNumber}
 use Rattle.osm_wire.specs.Varints.{SpellsNumber, front_number, varint_value}
 use Rattle.osm_wire.specs.Written.{IsField, IsPayload, packed, shortest_varint, varint_within, written_field, written_message, written_payload}
-use Rattle.osm_wire.proofs.FieldLemmas.{IsTag-field, fields_read, numbers_read}
+use Rattle.osm_wire.proofs.FieldLemmas.{fields_read, numbers_read}
 use Rattle.osm_wire.proofs.FrontLemmas.{front_of-spelled}
-use Rattle.osm_wire.proofs.VarintLemmas.{GoOn, SpellsNumber-some, position-at, varint_value-small}
+use Rattle.osm_wire.proofs.NumberLemmas.{SpellsNumber-some}
+use Rattle.osm_wire.proofs.TagLemmas.{IsTag-field}
+use Rattle.osm_wire.proofs.VarintLemmas.{GoOn, position-at, varint_value-small}
 
 -- bytes spell a number, in at most so many bytes
 record IsSpelling (bytes : List ℕ) (most n : ℕ) : Type 0 where
