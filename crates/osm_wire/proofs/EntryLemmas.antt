@@ -1,9 +1,8 @@
 -- What fields say follows from the first of them and those after it.
-use Rattle.std.proofs.Common.{◌≡◌, ◌∙◌, ◌++◌, ◌∷◌, ℕ, List, Option, Some, None, refl, ap}
-use Rattle.std.specs.List.{concat}
+use Rattle.std.proofs.Common.{◌≡◌, ◌∙◌, ◌∷◌, ℕ, List, Option, Some, None, refl, ap}
 use Rattle.std.specs.Option.{option_map}
 use Rattle.std.proofs.lemmas.Bool.{eq-eqb, ne_eqb}
-use Rattle.osm_wire.specs.Entries.{◌>>=◌, all_bytes, all_said, as_bytes, as_numbers, last_entry, last_or, payloads_of, repeated}
+use Rattle.osm_wire.specs.Entries.{◌>>=◌, all_said, last_entry, last_or, payloads_of}
 use Rattle.osm_wire.specs.Messages.{FieldValue, Payload}
 
 -- a field of the number comes first among its payloads
@@ -56,47 +55,3 @@ pub last_entry-other : {T : Type 0} (says : Payload → Option T) (absent : T) (
     last_entry says absent number (field ∷ fields) ≡ last_entry says absent number fields
 last_entry-other says absent number field fields other =
     ap (λ payloads. option_map (last_or absent) (all_said says payloads)) (payloads_of-other number field fields other)
-
--- numbers joined with those of other entries
-joined-more : (numbers : List ℕ) (others : Option (List (List ℕ))) →
-    option_map concat (others >>= (λ rest. Some (numbers ∷ rest)))
-    ≡ option_map (λ more. numbers ++ more) (option_map concat others)
-joined-more numbers None = refl
-joined-more numbers (Some rest) = refl
-
--- the numbers of the first entry come first
-pub repeated-here : (numbers : List ℕ) (number : ℕ) (field : FieldValue) (fields : List FieldValue) →
-    field.number ≡ number → as_numbers field.value ≡ Some numbers →
-    repeated number (field ∷ fields) ≡ option_map (λ more. numbers ++ more) (repeated number fields)
-repeated-here numbers number field fields is said =
-    ap (λ values. option_map concat values) (all_said-here as_numbers numbers number field fields is said)
-    ∙ joined-more numbers (all_said as_numbers (payloads_of number fields))
-
--- an entry without numbers says nothing of the field
-pub repeated-none : (number : ℕ) (field : FieldValue) (fields : List FieldValue) → field.number ≡ number →
-    as_numbers field.value ≡ None → repeated number (field ∷ fields) ≡ None
-repeated-none number field fields is said =
-    ap (λ values. option_map concat values) (all_said-none as_numbers number field fields is said)
-
--- a field of another number changes nothing
-pub repeated-other : (number : ℕ) (field : FieldValue) (fields : List FieldValue) → (field.number ≡ number → ⊥) →
-    repeated number (field ∷ fields) ≡ repeated number fields
-repeated-other number field fields other =
-    ap (λ payloads. option_map concat (all_said as_numbers payloads)) (payloads_of-other number field fields other)
-
--- the bytes of the first entry come first
-pub all_bytes-here : (content : List ℕ) (number : ℕ) (field : FieldValue) (fields : List FieldValue) →
-    field.number ≡ number → as_bytes field.value ≡ Some content →
-    all_bytes number (field ∷ fields) ≡ (all_bytes number fields >>= (λ rest. Some (content ∷ rest)))
-all_bytes-here content number field fields is said = all_said-here as_bytes content number field fields is said
-
--- an entry without bytes says nothing of the field
-pub all_bytes-none : (number : ℕ) (field : FieldValue) (fields : List FieldValue) → field.number ≡ number →
-    as_bytes field.value ≡ None → all_bytes number (field ∷ fields) ≡ None
-all_bytes-none number field fields is said = all_said-none as_bytes number field fields is said
-
--- a field of another number changes nothing
-pub all_bytes-other : (number : ℕ) (field : FieldValue) (fields : List FieldValue) → (field.number ≡ number → ⊥) →
-    all_bytes number (field ∷ fields) ≡ all_bytes number fields
-all_bytes-other number field fields other =
-    ap (λ payloads. all_said as_bytes payloads) (payloads_of-other number field fields other)

@@ -2,7 +2,6 @@ pub mod Entries
 pub mod Fronts
 pub mod Integers
 pub mod Messages
-pub mod NumbersSeen
 pub mod Refusals
 pub mod Seen
 pub mod Varints

@@ -1,11 +1,10 @@
-//! The fields of a message, and what they hold as a number, as bytes or as repeated numbers.
+//! The fields of a message, and what they hold as a number or as bytes.
 ghost use Rattle.std.specs.Prelude.{◌≡◌, None, Some, IfErr, IfOk};
-ghost use Rattle.osm_wire.specs.Entries.{as_bytes, as_number, as_numbers, whole_front};
+ghost use Rattle.osm_wire.specs.Entries.{as_bytes, as_number};
 ghost use Rattle.osm_wire.specs.Seen.{payload_seen};
 ghost use Rattle.osm_wire.specs.declared.error.WireError.TheVariants.{BadWire};
 
 use crate::error::WireError;
-use crate::numbers::Numbers;
 
 /// What a field holds, by its wire type.
 #[derive(Clone, Copy, Debug)]
@@ -52,21 +51,6 @@ impl<'a> Value<'a> {
     {
         match self {
             Value::Bytes(content) => Ok(content),
-            _ => Err(WireError::BadWire),
-        }
-    }
-
-    /// The numbers that it holds as an entry of a repeated field: one, or some packed. `BadWire`
-    /// where it has another wire type.
-    #[inline(always)]
-    pub fn numbers(self) -> Result<Numbers<'a>, WireError>
-        ensures ok { IfOk result (λ n. as_numbers (payload_seen self.entry) ≡ whole_front n) }
-        ensures err { IfErr result (λ e.
-            (e ≡ BadWire) × (as_numbers (payload_seen self.entry) ≡ None)) }
-    {
-        match self {
-            Value::Varint(number) => Ok(Numbers::one(number)),
-            Value::Bytes(packed) => Ok(Numbers::packed(packed)),
             _ => Err(WireError::BadWire),
         }
     }

@@ -10,7 +10,6 @@ mod error;
 mod field;
 mod integers;
 mod laws;
-mod numbers;
 mod putting;
 mod varints;
 
@@ -21,6 +20,5 @@ pub use integers::{int32, int64, sint32, uint32, unzigzag, zigzag};
 pub use laws::{
     good_fronts_are_read, varints_are_shortest, written_fields_read_back, zigzag_reads_back,
 };
-pub use numbers::Numbers;
 pub use putting::{put_bytes, put_number, put_varint};
-pub use varints::{first_varint, varint};
+pub use varints::varint;

@@ -20,7 +20,7 @@ pub fn varint(bytes: &[u8], at: usize) -> Result<(u64, usize), WireError>
 
 /// The number of the varint at the front, and how many bytes it takes, as `varint` gives them.
 #[inline(always)]
-pub fn first_varint(bytes: &[u8]) -> Result<(u64, usize), WireError>
+pub(crate) fn first_varint(bytes: &[u8]) -> Result<(u64, usize), WireError>
     ensures value { result ≡ front_number bytes.now }
     ensures within { IfOk result (λ p. (0 < p.1) × (p.1 ≤ length bytes.now)) }
 {
