@@ -1,9 +1,10 @@
 -- A graph as contracts see it, and what it keeps.
 -- Here a port is a number below how many its task has; the code has a name for each.
-use Rattle.std.specs.Prelude.{ℕ, ◌≤◌, ◌<◌, ◌≡◌, List, [], length, get_or, Bool, true, IsTrue}
+use Rattle.std.specs.Prelude.{ℕ, ◌≤◌, ◌<◌, ◌≡◌, List, [], length, get_or, Bool, true, false, IsTrue}
 use Rattle.osm_tasks.specs.Kinds.{is_within}
 use Rattle.osm_tasks.specs.Tasks.{TaskValue}
 use Rattle.osm_tasks.specs.declared.kind.TaskKind.TheVariants.{ReadEmpty}
+use Rattle.osm_graph.specs.Files.{clashes}
 use Rattle.osm_graph.specs.Pipes.{IsWholeGraph, pipe_of}
 use Rattle.osm_graph.specs.declared.pipe.Pipe.{Pipe}
 use Rattle.osm_graph.specs.declared.pipe.Store.{Store}
@@ -31,18 +32,20 @@ abbrev pub most_pipes : ℕ
 most_pipes = 128
 
 -- the most tasks of a graph: two for each pipe, since each task has a port
-abbrev pub most_tasks : ℕ
-most_tasks = 256
+abbrev pub most_joined_tasks : ℕ
+most_joined_tasks = 256
 
 -- a pipe is a spool, or holds 1 to 65,536 messages
 abbrev pub holds_messages : Store → Bool
 holds_messages (Bounded capacity) = is_within 1 65536 capacity
 holds_messages Spool = true
 
--- each port of each task has exactly one pipe, pipes lead to later tasks, there are at most 128 pipes and 256 tasks, and
--- each pipe can hold a message
+-- each port of each task has exactly one pipe, pipes lead to later tasks, there are at most 128 pipes and 256 tasks, each
+-- pipe can hold a message, and no task writes the file of another
 pub record IsGraph (g : GraphValue) : Type 0 where
   pub whole : IsWholeGraph (length g.tasks) (count_inputs g.tasks) (count_outputs g.tasks) g.pipes
   pub few_pipes : length g.pipes ≤ most_pipes
-  pub few_tasks : length g.tasks ≤ most_tasks
+  pub few_tasks : length g.tasks ≤ most_joined_tasks
   pub stored : (p : ℕ) → p < length g.pipes → IsTrue (holds_messages (pipe_of g.pipes p).store)
+  pub apart : (i j : ℕ) → i < j → j < length g.tasks →
+      clashes (get_or g.tasks i no_task).kind (get_or g.tasks j no_task).kind ≡ false
