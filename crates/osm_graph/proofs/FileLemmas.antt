@@ -21,7 +21,7 @@ position-None test xs k d none below = by_cases (cases_lt (position_or_len test 
     by_cases : (position_or_len test xs < length xs) ⊎ (length xs ≤ position_or_len test xs) →
         test (get_or xs k d) ≡ false
     by_cases (inl less) =
-        absurd (let no : Some (position_or_len test xs) ≡ None = sym (rw (lt-ltb _ _ less) refl) ∙ none in cc)
+        absurd (let never : Some (position_or_len test xs) ≡ None = sym (rw (lt-ltb _ _ less) refl) ∙ none in cc)
     by_cases (inr all) = fails_before_first test xs k d (omega arith)
 
 no-clash : (n : ℕ) (task : TaskValue) (earlier : List TaskValue) → task_clash n task earlier ≡ None →

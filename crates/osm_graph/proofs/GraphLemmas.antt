@@ -1,19 +1,19 @@
 -- What every graph keeps follows for the pipes of a command.
-use Rattle.std.proofs.Common.{◌≡◌, ◌<◌, ◌≤◌, ◌+◌, ◌⊎◌, ℕ, zero, suc, Bool, true, false, List, ◌∷◌, [], ◌++◌, length, get_or, Option, None, Some, Result, Ok, Err, refl, sym, ap, inl, inr, ◌∙◌, append_assoc, arith}
-use Rattle.std.specs.Prelude.{slice_get, count_by, nat_le, ◌==◌, ◌&&◌, position, IsSome, IsTrue, if◌then◌else◌}
+use Rattle.std.proofs.Common.{◌≡◌, ◌<◌, ◌≤◌, ◌+◌, ◌⊎◌, ℕ, zero, suc, Bool, true, false, List, ◌∷◌, [], ◌++◌, length, get_or, Option, None, Some, Result, Ok, Err, refl, sym, ap, subst, inl, inr, ◌∙◌, append_assoc, arith}
+use Rattle.std.specs.Prelude.{slice_get, count_by, nat_le, ◌==◌, ◌&&◌, position, All, IsSome, IsTrue, if◌then◌else◌}
 use Rattle.std.specs.Option.{option_or}
 use Rattle.std.proofs.lemmas.Bool.{cases_Bool, cases_eq, eqb-true, eq-eqb, ne_eqb, and_from, and_left, and_right}
 use Rattle.osm_tasks.specs.Tasks.{TaskValue, IsTask}
 use Rattle.osm_graph.specs.Files.{file_fault}
 use Rattle.osm_graph.specs.Graphs.{no_task, count_inputs, count_outputs, most_pipes, holds_messages, IsGraph}
-use Rattle.osm_graph.specs.Joining.{pipe_between, ports_fault, readers_of, pipes_from, joined_ports, command_pipes}
+use Rattle.osm_graph.specs.Joining.{pipe_between, ports_fault, readers_of, pipes_from, unless_fault, joined_ports}
 use Rattle.osm_graph.specs.Pipes.{no_pipe, pipe_of, pipe_into, pipe_out, IsWholeGraph}
 use Rattle.osm_graph.specs.Ports.{PortValue, ports_of}
 use Rattle.osm_graph.specs.declared.fault.GraphError.{GraphError}
 use Rattle.osm_graph.specs.declared.joining.Reader.{Reader}
 use Rattle.osm_graph.specs.declared.pipe.Pipe.{Pipe}
 use Rattle.osm_graph.proofs.FileLemmas.{files-apart}
-use Rattle.osm_graph.proofs.ListLemmas.{Every, EachTwo, Among, Every-then, Every-among, Every-get_or, EachTwo-get_or, position-here, position-some}
+use Rattle.osm_graph.proofs.ListLemmas.{Every, EachTwo, Among, Every-from_All, Every-then, Every-among, Every-get_or, EachTwo-get_or, position-here, position-some}
 use Rattle.osm_graph.proofs.PipeLemmas.{OtherOutput, OtherEnd, HasPipeFrom, HasPipeTo, pipes-Every, pipes-other_output, pipes-other_end, outputs-have, readers-have, length-pipes}
 use Rattle.osm_graph.proofs.PortLemmas.{ComesBefore, IsPortOf, HasPort, names_at, ports-in_order, ports-known, ports-have}
 use Rattle.osm_graph.proofs.StoreLemmas.{CanHold, few-outputs, ports-hold}
@@ -89,30 +89,34 @@ is_from : ℕ → ℕ → Pipe → Bool
 is_from task port pipe = (pipe.from == task) && (pipe.from_port == port)
 
 differ-test : (a b m n : ℕ) → (a ≡ m → b ≡ n → ⊥) → ((a == m) && (b == n)) ≡ false
-differ-test a b m n no = by_cases (cases_eq a m) (cases_eq b n)
+differ-test a b m n never = by_cases (cases_eq a m) (cases_eq b n)
   where
     by_cases : (a ≡ m) ⊎ (a ≡ m → ⊥) → (b ≡ n) ⊎ (b ≡ n → ⊥) → ((a == m) && (b == n)) ≡ false
-    by_cases (inl yes) (inl too) = absurd (no yes too)
-    by_cases (inl yes) (inr differ) = and_right (a == m) (b == n) (ne_eqb b n differ)
+    by_cases (inl holds) (inl too) = absurd (never holds too)
+    by_cases (inl holds) (inr differ) = and_right (a == m) (b == n) (ne_eqb b n differ)
     by_cases (inr differ) other = and_left (a == m) (b == n) (ne_eqb a m differ)
 
 same-test : (a b m n : ℕ) → a ≡ m → b ≡ n → ((a == m) && (b == n)) ≡ true
-same-test a b m n yes too = and_from (a == m) (b == n) (eq-eqb a m yes) (eq-eqb b n too)
+same-test a b m n holds too = and_from (a == m) (b == n) (eq-eqb a m holds) (eq-eqb b n too)
 
 -- the pipe at its output is the only one there
 out-alone : (pipes : List Pipe) (p : ℕ) → EachTwo OtherOutput pipes → p < length pipes →
     pipe_out pipes (pipe_of pipes p).from (pipe_of pipes p).from_port ≡ Some p
 out-alone pipes p differ below =
-    position-here (λ pipe. (pipe.from == (pipe_of pipes p).from) && (pipe.from_port == (pipe_of pipes p).from_port))
-    pipes p no_pipe below (same-test _ _ _ _ refl refl)
-    (λ k less. differ-test _ _ _ _ (EachTwo-get_or OtherOutput pipes k p no_pipe less below differ))
+    let here : Pipe = pipe_of pipes p in
+    position-here (λ pipe. (pipe.from == here.from) && (pipe.from_port == here.from_port)) pipes p no_pipe below
+    (same-test here.from here.from_port here.from here.from_port refl refl)
+    (λ k less. differ-test (get_or pipes k no_pipe).from (get_or pipes k no_pipe).from_port here.from here.from_port
+    (EachTwo-get_or OtherOutput pipes k p no_pipe less below differ))
 
 into-alone : (pipes : List Pipe) (p : ℕ) → EachTwo OtherEnd pipes → p < length pipes →
     pipe_into pipes (pipe_of pipes p).to (pipe_of pipes p).to_port ≡ Some p
 into-alone pipes p differ below =
-    position-here (λ pipe. (pipe.to == (pipe_of pipes p).to) && (pipe.to_port == (pipe_of pipes p).to_port))
-    pipes p no_pipe below (same-test _ _ _ _ refl refl)
-    (λ k less. differ-test _ _ _ _ (EachTwo-get_or OtherEnd pipes k p no_pipe less below differ))
+    let here : Pipe = pipe_of pipes p in
+    position-here (λ pipe. (pipe.to == here.to) && (pipe.to_port == here.to_port)) pipes p no_pipe below
+    (same-test here.to here.to_port here.to here.to_port refl refl)
+    (λ k less. differ-test (get_or pipes k no_pipe).to (get_or pipes k no_pipe).to_port here.to here.to_port
+    (EachTwo-get_or OtherEnd pipes k p no_pipe less below differ))
 
 has-into : (tasks : List TaskValue) (pipes : List Pipe) → AreJoined tasks pipes → (t port : ℕ) → t < length tasks →
     port < count_inputs tasks t → IsSome (pipe_into pipes t port)
@@ -123,25 +127,25 @@ has-into tasks pipes are t port known below =
     let output : HasOutput (ports_of tasks) has.reader =
     Every-among (HasOutput (ports_of tasks)) (readers_of [] (ports_of tasks)) has.reader
     (readers-have_outputs [] (ports_of tasks) are.fine (ports-in_order 0 tasks)) has.among in
-    let pipe : HasPipeTo pipes has.reader.task has.reader.port =
+    let pipe : HasPipeTo has.reader.task has.reader.port pipes =
     readers-have (readers_of [] (ports_of tasks)) 0 0 (ports_of tasks) pipes has.reader.place output.port has.reader
     are.read (readers-other_place [] (ports_of tasks) are.fine) output.at output.gives (omega arith) has.among in
     let task : pipe.pipe.to ≡ t = pipe.task ∙ has.task ∙ there.task ∙ omega arith in
     let number : pipe.pipe.to_port ≡ port = pipe.port ∙ has.port ∙ there.number in
     position-some (λ pipe. (pipe.to == t) && (pipe.to_port == port)) pipes pipe.pipe pipe.among
-    (same-test _ _ _ _ task number)
+    (same-test pipe.pipe.to pipe.pipe.to_port t port task number)
 
 has-out : (tasks : List TaskValue) (pipes : List Pipe) → AreJoined tasks pipes → (t port : ℕ) → t < length tasks →
     port < count_outputs tasks t → IsSome (pipe_out pipes t port)
 has-out tasks pipes are t port known below =
     let there : HasPort (ports_of tasks) (0 + t) true port = ports-have 0 tasks t true port known below in
-    let pipe : HasPipeFrom pipes there.p.task there.p.port =
+    let pipe : HasPipeFrom there.p.task there.p.port pipes =
     outputs-have (readers_of [] (ports_of tasks)) 0 0 (ports_of tasks) pipes there.p are.read there.among
     there.gives in
     let task : pipe.pipe.from ≡ t = pipe.task ∙ there.task ∙ omega arith in
     let number : pipe.pipe.from_port ≡ port = pipe.port ∙ there.number in
     position-some (λ pipe. (pipe.from == t) && (pipe.from_port == port)) pipes pipe.pipe pipe.among
-    (same-test _ _ _ _ task number)
+    (same-test pipe.pipe.from pipe.pipe.from_port t port task number)
 
 -- the pipes of a command join each port once, both ways
 pub joined-whole : (tasks : List TaskValue) (pipes : List Pipe) → AreJoined tasks pipes →
@@ -170,7 +174,7 @@ pipes-hold : (tasks : List TaskValue) (pipes : List Pipe) → AreJoined tasks pi
 pipes-hold tasks pipes are kept =
     let readers : Every (λ r. holds_messages r.store ≡ true) (readers_of [] (ports_of tasks)) =
     readers-Every (λ r. holds_messages r.store ≡ true) [] (ports_of tasks) are.fine
-    (Every-then CanHold (λ p. (o : ℕ) → p.gives ≡ false → holds_messages p.store ≡ true) (λ p holds o takes. holds)
+    (Every-then CanHold (λ p. (o : ℕ) → p.gives ≡ false → holds_messages p.store ≡ true) (λ p can o takes. can)
     (ports_of tasks) (ports-hold 0 tasks kept)) in
     pipes-Every (λ pipe. holds_messages pipe.store ≡ true) (readers_of [] (ports_of tasks)) 0 0 (ports_of tasks) pipes
     are.read
@@ -197,3 +201,23 @@ joined-IsGraph tasks pipes are files kept =
           (pipes-hold tasks pipes are kept);
       apart = files-apart tasks files;
     }
+
+-- pipes that are joined come without a fault of a port
+joined-apart : (tasks : List TaskValue) (pipes : List Pipe) → joined_ports (ports_of tasks) ≡ Ok pipes →
+    AreJoined tasks pipes
+joined-apart tasks pipes ok = by_fault (ports_fault [] (ports_of tasks)) refl ok
+  where
+    by_fault : (fault : Option GraphError) → ports_fault [] (ports_of tasks) ≡ fault →
+        unless_fault fault (pipes_from (readers_of [] (ports_of tasks)) 0 0 (ports_of tasks)) ≡ Ok pipes →
+        AreJoined tasks pipes
+    by_fault None fine ok = record { fine = fine; read = ok }
+    by_fault (Some fault) bad ok = absurd (let never : Err fault ≡ Ok pipes = ok in cc)
+
+-- what is joined is a graph
+pub made-IsGraph : (tasks seen seen_too : List TaskValue) (pipes : List Pipe) → seen ≡ tasks → seen_too ≡ tasks →
+    joined_ports (ports_of seen) ≡ Ok pipes → All IsTask seen → file_fault seen_too ≡ None →
+    IsGraph (record { tasks = tasks; pipes = pipes })
+made-IsGraph tasks seen seen_too pipes is is_too ok kept fine =
+    joined-IsGraph tasks pipes (joined-apart tasks pipes (ap (λ ts. joined_ports (ports_of ts)) (sym is) ∙ ok))
+    (ap file_fault (sym is_too) ∙ fine)
+    (Every-from_All IsTask tasks (subst (All IsTask) is kept))

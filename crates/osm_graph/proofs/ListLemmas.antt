@@ -1,6 +1,6 @@
 -- Facts of each element of a list, of each two, and of one of them, by recursion.
 use Rattle.std.proofs.Common.{◌≡◌, ◌<◌, ◌+◌, ◌⊎◌, ℕ, zero, suc, Bool, true, false, cond, List, ◌∷◌, [], ◌++◌, length, get_or, Option, None, Some, refl, sym, ap, ◌∙◌, inl, inr, arith}
-use Rattle.std.specs.Prelude.{⊤, not, IsSome, find, position, if◌then◌else◌}
+use Rattle.std.specs.Prelude.{⊤, not, All, IsSome, find, position, if◌then◌else◌}
 use Rattle.std.specs.List.{position_or_len}
 use Rattle.std.proofs.lemmas.Bool.{lt-ltb}
 use Rattle.std.proofs.lemmas.List.Sums.{position_or_len_is}
@@ -19,6 +19,12 @@ EachTwo R (x ∷ xs) = Every (R x) xs × EachTwo R xs
 abbrev pub Among : {X : Type 0} → List X → X → Type 0
 Among [] y = ⊥
 Among (x ∷ xs) y = (x ≡ y) ⊎ Among xs y
+
+-- what each element has by its place
+pub Every-from_All : {X : Type 0} (P : X → Type 0) (xs : List X) → All P xs → Every P xs
+Every-from_All P [] has = tt
+Every-from_All P (x ∷ xs) has =
+    (has 0 x (omega arith), Every-from_All P xs (λ k d below. has (suc k) d (omega arith)))
 
 pub Every-append : {X : Type 0} (P : X → Type 0) (xs ys : List X) → Every P xs → Every P ys → Every P (xs ++ ys)
 Every-append P [] ys here there = there
@@ -77,15 +83,15 @@ Among-right (x ∷ xs) ys y among = inr (Among-right xs ys y among)
 -- what is found is in the list, and passes
 pub find-among : {X : Type 0} (test : X → Bool) (xs : List X) (y : X) → find test xs ≡ Some y →
     (test y ≡ true) × Among xs y
-find-among test [] y is = absurd (let no : None ≡ Some y = is in cc)
-find-among test (x ∷ xs) y is = cases (test x) refl is
+find-among test [] y is = absurd (let never : None ≡ Some y = is in cc)
+find-among test (x ∷ xs) y is = cases (test x) refl (λ found. find-among test xs y found) is
   where
-    cases : (b : Bool) → test x ≡ b → (if b then Some x else find test xs) ≡ Some y →
-        (test y ≡ true) × Among (x ∷ xs) y
-    cases true passes found =
+    cases : (b : Bool) → test x ≡ b → (find test xs ≡ Some y → (test y ≡ true) × Among xs y) →
+        (if b then Some x else find test xs) ≡ Some y → (test y ≡ true) × Among (x ∷ xs) y
+    cases true passes later found =
         let same : x ≡ y = (let e : Some x ≡ Some y = found in grind arith) in (rw (sym same) passes, inl same)
-    cases false fails found =
-        let more : (test y ≡ true) × Among xs y = find-among test xs y found in (more.0, inr more.1)
+    cases false fails later found =
+        let more : (test y ≡ true) × Among xs y = later found in (more.0, inr more.1)
 
 -- the first place that passes is the one before which none does
 pub position-here : {X : Type 0} (test : X → Bool) (xs : List X) (p : ℕ) (d : X) → p < length xs →

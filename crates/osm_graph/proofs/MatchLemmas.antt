@@ -16,17 +16,18 @@ use Rattle.osm_graph.specs.Matching.{is_opening, is_closing, are_even, is_still_
 -- the latest number that passes: it is below, it passes, and none after it does
 pub latest-Some : (test : ℕ → Bool) (n k : ℕ) → latest test n ≡ Some k →
     (k < n) × (test k ≡ true) × ((j : ℕ) → k < j → j < n → test j ≡ false)
-latest-Some test zero k is = absurd (let no : None ≡ Some k = is in cc)
-latest-Some test (suc n) k is = cases (test n) refl is
+latest-Some test zero k is = absurd (let never : None ≡ Some k = is in cc)
+latest-Some test (suc n) k is = cases (test n) refl (λ found. latest-Some test n k found) is
   where
-    cases : (b : Bool) → test n ≡ b → (if b then Some n else latest test n) ≡ Some k →
+    cases : (b : Bool) → test n ≡ b → (latest test n ≡ Some k →
+        (k < n) × (test k ≡ true) × ((j : ℕ) → k < j → j < n → test j ≡ false)) →
+        (if b then Some n else latest test n) ≡ Some k →
         (k < suc n) × (test k ≡ true) × ((j : ℕ) → k < j → j < suc n → test j ≡ false)
-    cases true passes found =
+    cases true passes later found =
         let same : n ≡ k = (let e : Some n ≡ Some k = found in grind arith) in
         (omega arith, rw (sym same) passes, λ j above below. absurd (omega arith))
-    cases false fails found =
-        let more : (k < n) × (test k ≡ true) × ((j : ℕ) → k < j → j < n → test j ≡ false) =
-        latest-Some test n k found in
+    cases false fails later found =
+        let more : (k < n) × (test k ≡ true) × ((j : ℕ) → k < j → j < n → test j ≡ false) = later found in
         (omega (arith, more.0), more.1, λ j above below. last j above below (cases_below j below) more.2)
       where
         cases_below : (j : ℕ) → j < suc n → (j < n) ⊎ (j ≡ n)
@@ -37,18 +38,15 @@ latest-Some test (suc n) k is = cases (test n) refl is
         last j above below (inl less) rest = rest j above less
         last j above below (inr same) rest = rw same fails
 
-and_left : (a b : Bool) → (a && b) ≡ true → a ≡ true
-and_left true b yes = refl
-and_left false b yes = yes
-
-and_right : (a b : Bool) → (a && b) ≡ true → b ≡ true
-and_right true b yes = yes
-and_right false b yes = absurd (let false_is : false ≡ true = yes in cc)
-
 -- how many pass in two lists
-count_by-append : {X : Type 0} (p : X → Bool) (xs ys : List X) →
+pub count_by-append : {X : Type 0} (p : X → Bool) (xs ys : List X) →
     count_by p (xs ++ ys) ≡ count_by p xs + count_by p ys
 count_by-append p xs ys = sum_by-append (λ y. cond (p y) 1 0) xs ys
+
+-- how many pass with one element before
+pub count_by-cons : {X : Type 0} (p : X → Bool) (x : X) (xs : List X) →
+    count_by p (x ∷ xs) ≡ cond (p x) 1 0 + count_by p xs
+count_by-cons p x xs = sum_by-append (λ y. cond (p y) 1 0) (x ∷ []) xs ∙ omega arith
 
 -- how many marks open and close
 abbrev opened : List PortValue → ℕ
@@ -66,18 +64,18 @@ pub record IsOpen (first : PortValue) (after ports : List PortValue) : Type 0 wh
 -- the marks after one that is still open are even
 still-even : (first : PortValue) (after : List PortValue) → is_still_open (first ∷ after) ≡ true →
     opened after ≡ closed after
-still-even first after yes = eqb-true _ _ (and_parts (is_opening first) (are_even after) yes).1
+still-even first after holds = eqb-true _ _ (and_parts (is_opening first) (are_even after) holds).1
 
 still-open : (ports : List PortValue) → is_still_open ports ≡ true →
     (first : PortValue) × (after : List PortValue) × IsOpen first after ports
-still-open [] no = absurd (let false_is : false ≡ true = no in cc)
-still-open (first ∷ after) yes = (
+still-open [] holds = absurd (let never : false ≡ true = holds in cc)
+still-open (first ∷ after) holds = (
   first,
   after,
   record {
     is = refl;
-    opening = (and_parts (is_opening first) (are_even after) yes).0;
-    even = still-even first after yes;
+    opening = (and_parts (is_opening first) (are_even after) holds).0;
+    even = still-even first after holds;
   },
 )
 
@@ -86,18 +84,21 @@ surplus : (ports : List PortValue) → closed ports < opened ports →
     (j : ℕ) × (j < length ports) × (is_still_open (drop j ports) ≡ true)
 surplus [] less = absurd (omega arith)
 surplus (port ∷ ports) less =
-    step (is_opening port) (is_closing port) refl (cases_lt (closed ports) (opened ports)) less
+    step (is_opening port) (is_closing port) refl (cases_lt (closed ports) (opened ports))
+    (λ more. surplus ports more)
+    (omega (arith, less, count_by-cons is_opening port ports, count_by-cons is_closing port ports))
   where
     step : (o c : Bool) → is_opening port ≡ o → (closed ports < opened ports) ⊎ (opened ports ≤ closed ports) →
+        (closed ports < opened ports → (j : ℕ) × (j < length ports) × (is_still_open (drop j ports) ≡ true)) →
         cond c 1 0 + closed ports < cond o 1 0 + opened ports →
         (j : ℕ) × (j < length (port ∷ ports)) × (is_still_open (drop j (port ∷ ports)) ≡ true)
-    step o c is (inl more) less =
-        let later : (j : ℕ) × (j < length ports) × (is_still_open (drop j ports) ≡ true) = surplus ports more in
-        (suc later.0, omega (arith, later.1), later.2)
-    step false true is (inr no_more) less = absurd (omega arith)
-    step false false is (inr no_more) less = absurd (omega arith)
-    step true true is (inr no_more) less = absurd (omega arith)
-    step true false is (inr no_more) less =
+    step o c is (inl more) later less =
+        let found : (j : ℕ) × (j < length ports) × (is_still_open (drop j ports) ≡ true) = later more in
+        (suc found.0, omega (arith, found.1), found.2)
+    step false true is (inr no_more) later less = absurd (omega arith)
+    step false false is (inr no_more) later less = absurd (omega arith)
+    step true true is (inr no_more) later less = absurd (omega arith)
+    step true false is (inr no_more) later less =
         let even : opened ports ≡ closed ports = omega arith in
         (0, omega arith, and_from _ _ is (eq-eqb _ _ even))
 
@@ -105,15 +106,17 @@ closing-opens : (port : PortValue) → is_closing port ≡ true → is_opening p
 closing-opens port closes = cases port.gives (is_none port.name) closes
   where
     cases : (g n : Bool) → (not g && n) ≡ true → (g && n) ≡ false
-    cases true true closes = absurd (let no : false ≡ true = closes in cc)
+    cases true true closes = absurd (let never : false ≡ true = closes in cc)
     cases true false closes = refl
     cases false n closes = refl
 
 -- a list that begins with a closing mark opens as much as the rest, and closes one more
 counts_after : (port : PortValue) (mid : List PortValue) → is_closing port ≡ true →
     (opened (port ∷ mid) ≡ opened mid) × (closed (port ∷ mid) ≡ closed mid + 1)
-counts_after port mid closes =
-    (rw (closing-opens port closes) (omega arith), rw closes (omega arith))
+counts_after port mid closes = (
+  count_by-cons is_opening port mid ∙ rw (closing-opens port closes) (omega arith),
+  count_by-cons is_closing port mid ∙ rw closes (omega arith),
+)
 
 -- an opening mark that is still open before a closing mark, and again before a later one, leaves one open between
 between-open : (first port : PortValue) (after mid : List PortValue) → is_closing port ≡ true →
@@ -162,7 +165,7 @@ matching-alone earlier mid port o closes one other =
     (omega (arith, more.1, length-append earlier (port ∷ mid))) in
     let still : is_still_open (drop (length earlier + suc more.0) whole) ≡ true =
     ap is_still_open (drop-past earlier mid port more.0) ∙ more.2 in
-    (let no : false ≡ true = sym shut ∙ still in cc)
+    (let never : false ≡ true = sym shut ∙ still in cc)
 
 -- the output at a place among the ports, with the name of an input that takes its pipe
 pub record IsSource (earlier : List PortValue) (name : Option (List ℕ)) (o : ℕ) : Type 0 where
@@ -174,25 +177,25 @@ pub record IsSource (earlier : List PortValue) (name : Option (List ℕ)) (o : �
 -- the first of a rest stands where the rest begins
 drop-slice_get : (ports after : List PortValue) (o : ℕ) (first : PortValue) → drop o ports ≡ first ∷ after →
     slice_get ports o ≡ Some first
-drop-slice_get [] after zero first is = absurd (let no : [] ≡ first ∷ after = is in cc)
-drop-slice_get [] after (suc o) first is = absurd (let no : [] ≡ first ∷ after = is in cc)
+drop-slice_get [] after zero first is = absurd (let never : [] ≡ first ∷ after = is in cc)
+drop-slice_get [] after (suc o) first is = absurd (let never : [] ≡ first ∷ after = is in cc)
 drop-slice_get (port ∷ ports) after zero first is =
     let same : port ≡ first = (let e : port ∷ ports ≡ first ∷ after = is in grind arith) in ap Some same
 drop-slice_get (port ∷ ports) after (suc o) first is = drop-slice_get ports after o first is
 
 pub slice_get-append : (xs ys : List PortValue) (o : ℕ) (port : PortValue) → slice_get xs o ≡ Some port →
     slice_get (xs ++ ys) o ≡ Some port
-slice_get-append [] ys o port is = absurd (let no : None ≡ Some port = is in cc)
+slice_get-append [] ys o port is = absurd (let never : None ≡ Some port = is in cc)
 slice_get-append (x ∷ xs) ys zero port is = is
 slice_get-append (x ∷ xs) ys (suc o) port is = slice_get-append xs ys o port is
 
 is_none-None : (name : Option (List ℕ)) → is_none name ≡ true → name ≡ None
-is_none-None None yes = refl
-is_none-None (Some n) yes = absurd (let no : false ≡ true = yes in cc)
+is_none-None None holds = refl
+is_none-None (Some n) holds = absurd (let never : false ≡ true = holds in cc)
 
 called-Some : (name : List ℕ) (other : Option (List ℕ)) → is_pipe_named name other ≡ true → other ≡ Some name
-called-Some name None yes = absurd (let no : false ≡ true = yes in cc)
-called-Some name (Some other) yes = ap Some ((bytes_eq-Decides other name).0 yes)
+called-Some name None holds = absurd (let never : false ≡ true = holds in cc)
+called-Some name (Some other) holds = ap Some ((bytes_eq-Decides other name).0 holds)
 
 -- an input's pipe is put by an output of its name
 pub source-is : (earlier : List PortValue) (name : Option (List ℕ)) (o : ℕ) (d : PortValue) →
@@ -224,8 +227,8 @@ source-is earlier (Some name) o d found =
 
 list_any-here : (test : PortValue → Bool) (earlier mid : List PortValue) (port : PortValue) → test port ≡ true →
     list_any test (earlier ++ port ∷ mid) ≡ true
-list_any-here test [] mid port yes = rw yes refl
-list_any-here test (x ∷ xs) mid port yes = or_right (test x) _ (list_any-here test xs mid port yes)
+list_any-here test [] mid port holds = rw holds refl
+list_any-here test (x ∷ xs) mid port holds = or_right (test x) _ (list_any-here test xs mid port holds)
 
 -- no two inputs take the pipe of one output
 pub source-alone : (earlier mid : List PortValue) (port other : PortValue) (o : ℕ) → port.gives ≡ false →
@@ -253,6 +256,6 @@ source-alone earlier mid port other o takes free one two =
         let taken : list_any (takes_named name) (earlier ++ port ∷ mid) ≡ true =
         list_any-here (takes_named name) earlier mid port
         (rw (takes, is) ((bytes_eq-Decides name name).1 refl)) in
-        let no : list_any (takes_named name) (earlier ++ port ∷ mid) ≡ false =
+        let never : list_any (takes_named name) (earlier ++ port ∷ mid) ≡ false =
         sym (ap (is_taken (earlier ++ port ∷ mid)) same) ∙ free in
-        (let false_is : false ≡ true = sym no ∙ taken in cc)
+        (let false_is : false ≡ true = sym never ∙ taken in cc)

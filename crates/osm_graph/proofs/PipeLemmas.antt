@@ -1,5 +1,5 @@
 -- The pipes between ports and their readers: each has its output and its input, and each port has one.
-use Rattle.std.proofs.Common.{◌≡◌, ◌<◌, ◌≤◌, ◌+◌, ◌⊎◌, ℕ, zero, suc, Bool, true, false, List, ◌∷◌, [], ◌++◌, length, Option, None, Some, Result, Ok, Err, refl, sym, ap, inl, inr, ◌∙◌, arith}
+use Rattle.std.proofs.Common.{◌≡◌, ◌<◌, ◌≤◌, ◌+◌, ◌⊎◌, ℕ, zero, suc, Bool, true, false, List, ◌∷◌, [], ◌++◌, length, Option, None, Some, Result, Ok, Err, cond, refl, sym, ap, subst, inl, inr, ◌∙◌, arith}
 use Rattle.std.specs.Prelude.{slice_get, find, count_by, ◌==◌, if◌then◌else◌}
 use Rattle.std.proofs.lemmas.Bool.{cases_Bool, eqb-true, eq-eqb}
 use Rattle.osm_graph.specs.Joining.{pipe_between, joined_pipe, pipes_from}
@@ -9,6 +9,7 @@ use Rattle.osm_graph.specs.declared.fault.GraphError.TheVariants.{UnusedPipes}
 use Rattle.osm_graph.specs.declared.joining.Reader.{Reader}
 use Rattle.osm_graph.specs.declared.pipe.Pipe.{Pipe}
 use Rattle.osm_graph.proofs.ListLemmas.{Every, EachTwo, Among, Every-then, EachTwo-among, find-among}
+use Rattle.osm_graph.proofs.MatchLemmas.{count_by-cons}
 use Rattle.osm_graph.proofs.PortLemmas.{ComesBefore, side_of}
 use Rattle.osm_graph.proofs.ReaderLemmas.{OtherPlace, OtherInput, slice_get-Every}
 
@@ -16,14 +17,31 @@ use Rattle.osm_graph.proofs.ReaderLemmas.{OtherPlace, OtherInput, slice_get-Ever
 abbrev reader_found : List Reader → ℕ → Option Reader
 reader_found readers place = find (λ r. r.place == place) readers
 
+-- what is joined from an output on, and from an input on
+pipes-gives : (readers : List Reader) (place number : ℕ) (port : PortValue) (ports : List PortValue) →
+    port.gives ≡ true →
+    pipes_from readers place number (port ∷ ports)
+    ≡ joined_pipe number port (reader_found readers place) (pipes_from readers (place + 1) (number + 1) ports)
+pipes-gives readers place number port ports gives = rw gives refl
+
+pipes-takes : (readers : List Reader) (place number : ℕ) (port : PortValue) (ports : List PortValue) →
+    port.gives ≡ false →
+    pipes_from readers place number (port ∷ ports) ≡ pipes_from readers (place + 1) number ports
+pipes-takes readers place number port ports takes = rw takes refl
+
+-- the pipes of an answer
+abbrev pipes_in : Result (List Pipe) GraphError → List Pipe
+pipes_in (Err fault) = []
+pipes_in (Ok pipes) = pipes
+
 -- the first pipe of some that are joined, and those after it
-record IsSplit (readers : List Reader) (place number : ℕ) (port : PortValue) (ports : List PortValue)
+record IsSplit (readers : List Reader) (o number : ℕ) (port : PortValue) (ports : List PortValue)
     (pipes : List Pipe) : Type 0 where
   pub reader : Reader
-  pub at : reader.place ≡ place
+  pub at : reader.place ≡ o
   pub among : Among readers reader
   pub more : List Pipe
-  pub rest : pipes_from readers (place + 1) (number + 1) ports ≡ Ok more
+  pub rest : pipes_from readers (o + 1) (number + 1) ports ≡ Ok more
   pub is : pipes ≡ pipe_between port reader ∷ more
 
 split : (readers : List Reader) (place number : ℕ) (port : PortValue) (ports : List PortValue) (pipes : List Pipe) →
@@ -31,13 +49,13 @@ split : (readers : List Reader) (place number : ℕ) (port : PortValue) (ports :
     IsSplit readers place number port ports pipes
 split readers place number port ports pipes gives ok =
     by_found (reader_found readers place) refl (pipes_from readers (place + 1) (number + 1) ports) refl
-    (sym (rw gives refl) ∙ ok)
+    (sym (pipes-gives readers place number port ports gives) ∙ ok)
   where
     by_found : (found : Option Reader) → reader_found readers place ≡ found → (rest : Result (List Pipe) GraphError) →
         pipes_from readers (place + 1) (number + 1) ports ≡ rest →
         joined_pipe number port found rest ≡ Ok pipes → IsSplit readers place number port ports pipes
-    by_found None is rest same ok = absurd (let no : Err (UnusedPipes number) ≡ Ok pipes = ok in cc)
-    by_found (Some reader) is (Err fault) same ok = absurd (let no : Err fault ≡ Ok pipes = ok in cc)
+    by_found None is rest same ok = absurd (let never : Err (UnusedPipes number) ≡ Ok pipes = ok in cc)
+    by_found (Some reader) is (Err fault) same ok = absurd (let never : Err fault ≡ Ok pipes = ok in cc)
     by_found (Some reader) is (Ok more) same ok =
         let found : ((reader.place == place) ≡ true) × Among readers reader =
         find-among (λ r. r.place == place) readers reader is in
@@ -47,71 +65,66 @@ split readers place number port ports pipes gives ok =
           among = found.1;
           more = more;
           rest = same;
-          is = (let e : Ok (pipe_between port reader ∷ more) ≡ Ok pipes = ok in grind arith);
+          is = sym (ap pipes_in ok);
         }
 
 -- an input puts no pipe
 skip : (readers : List Reader) (place number : ℕ) (port : PortValue) (ports : List PortValue) (pipes : List Pipe) →
     port.gives ≡ false → pipes_from readers place number (port ∷ ports) ≡ Ok pipes →
     pipes_from readers (place + 1) number ports ≡ Ok pipes
-skip readers place number port ports pipes takes ok = sym (rw takes refl) ∙ ok
+skip readers place number port ports pipes takes ok = sym (pipes-takes readers place number port ports takes) ∙ ok
 
--- no port, no pipe
-nothing_joined : (pipes : List Pipe) → Ok [] ≡ Ok pipes → pipes ≡ []
-nothing_joined pipes ok = let e : Ok [] ≡ Ok pipes = ok in grind arith
+-- a fact of pipes that follows for one port more: a pipe before those that have it, or none
+one_more : (P : List Pipe → Type 0) (readers : List Reader) (place number : ℕ) (port : PortValue)
+    (ports : List PortValue) (pipes : List Pipe) → pipes_from readers place number (port ∷ ports) ≡ Ok pipes →
+    ((n : ℕ) (more : List Pipe) → pipes_from readers (place + 1) n ports ≡ Ok more → P more) →
+    ((r : Reader) (more : List Pipe) → port.gives ≡ true → r.place ≡ place → Among readers r →
+    pipes_from readers (place + 1) (number + 1) ports ≡ Ok more → P more → P (pipe_between port r ∷ more)) → P pipes
+one_more P readers place number port ports pipes ok later first = by_side (cases_Bool port.gives)
+  where
+    by_side : (port.gives ≡ true) ⊎ (port.gives ≡ false) → P pipes
+    by_side (inl gives) =
+        let s : IsSplit readers place number port ports pipes = split readers place number port ports pipes gives ok in
+        let both : P (pipe_between port s.reader ∷ s.more) =
+        first s.reader s.more gives s.at s.among s.rest (later (number + 1) s.more s.rest) in
+        subst P (sym s.is) both
+    by_side (inr takes) = later number pipes (skip readers place number port ports pipes takes ok)
 
 -- each pipe has what each output has with its reader
 pub pipes-Every : (Q : Pipe → Type 0) (readers : List Reader) (place number : ℕ) (ports : List PortValue)
     (pipes : List Pipe) → pipes_from readers place number ports ≡ Ok pipes →
     ((k : ℕ) (p : PortValue) (r : Reader) → slice_get ports k ≡ Some p → p.gives ≡ true → r.place ≡ place + k →
     Among readers r → Q (pipe_between p r)) → Every Q pipes
-pipes-Every Q readers place number [] pipes ok each = rw (nothing_joined pipes ok) tt
-pipes-Every Q readers place number (port ∷ ports) pipes ok each = by_side (cases_Bool port.gives)
-  where
-    later : (n : ℕ) (more : List Pipe) → pipes_from readers (place + 1) n ports ≡ Ok more → Every Q more
-    later n more rest =
-        pipes-Every Q readers (place + 1) n ports more rest
-        (λ k p r at gives where_it_is among. each (suc k) p r at gives (omega arith) among)
-
-    by_side : (port.gives ≡ true) ⊎ (port.gives ≡ false) → Every Q pipes
-    by_side (inl gives) =
-        let s : IsSplit readers place number port ports pipes = split readers place number port ports pipes gives ok in
-        let here : Q (pipe_between port s.reader) =
-        each 0 port s.reader refl gives (omega (arith, s.at)) s.among in
-        let both : Every Q (pipe_between port s.reader ∷ s.more) = (here, later (number + 1) s.more s.rest) in
-        rw s.is both
-    by_side (inr takes) = later number pipes (skip readers place number port ports pipes takes ok)
+pipes-Every Q readers place number [] pipes ok each = subst (Every Q) (ap pipes_in ok) tt
+pipes-Every Q readers place number (port ∷ ports) pipes ok each =
+    one_more (Every Q) readers place number port ports pipes ok
+    (λ n more rest. pipes-Every Q readers (place + 1) n ports more rest
+    (λ k p r at gives there among. each (suc k) p r at gives (there ∙ omega arith) among))
+    (λ r more gives at among rest has. (each 0 port r refl gives (at ∙ omega arith) among, has))
 
 -- two pipes come from two outputs
 abbrev pub OtherOutput : Pipe → Pipe → Type 0
 OtherOutput a b = a.from ≡ b.from → a.from_port ≡ b.from_port → ⊥
 
+other-output : (port p : PortValue) (r q : Reader) → port.gives ≡ true → p.gives ≡ true → ComesBefore port p →
+    OtherOutput (pipe_between port r) (pipe_between p q)
+other-output port p r q gives gives_too before same_task same_port =
+    let sides : side_of port.task port.gives ≡ side_of p.task p.gives = rw (gives, gives_too, same_task) refl in
+    let less : port.port < p.port = before.number sides in
+    omega (arith, less, same_port)
+
 pub pipes-other_output : (readers : List Reader) (place number : ℕ) (ports : List PortValue) (pipes : List Pipe) →
     pipes_from readers place number ports ≡ Ok pipes → EachTwo ComesBefore ports → EachTwo OtherOutput pipes
-pipes-other_output readers place number [] pipes ok order = rw (nothing_joined pipes ok) tt
-pipes-other_output readers place number (port ∷ ports) pipes ok order = by_side (cases_Bool port.gives)
-  where
-    other : (s : IsSplit readers place number port ports pipes) → port.gives ≡ true → (p : PortValue) (r : Reader) →
-        p.gives ≡ true → ComesBefore port p → OtherOutput (pipe_between port s.reader) (pipe_between p r)
-    other s gives p r gives_too before same_task same_port =
-        let sides : side_of port.task port.gives ≡ side_of p.task p.gives = rw (gives, gives_too, same_task) refl in
-        let less : port.port < p.port = before.number sides in
-        omega arith
-
-    by_side : (port.gives ≡ true) ⊎ (port.gives ≡ false) → EachTwo OtherOutput pipes
-    by_side (inl gives) =
-        let s : IsSplit readers place number port ports pipes = split readers place number port ports pipes gives ok in
-        let first : Every (OtherOutput (pipe_between port s.reader)) s.more =
-        pipes-Every (OtherOutput (pipe_between port s.reader)) readers (place + 1) (number + 1) ports s.more s.rest
-        (λ k p r at gives_too where_it_is among. other s gives p r gives_too
-        (slice_get-Every (ComesBefore port) ports k p at order.0)) in
-        let rest : EachTwo OtherOutput s.more =
-        pipes-other_output readers (place + 1) (number + 1) ports s.more s.rest order.1 in
-        let both : EachTwo OtherOutput (pipe_between port s.reader ∷ s.more) = (first, rest) in
-        rw s.is both
-    by_side (inr takes) =
-        pipes-other_output readers (place + 1) number ports pipes
-        (skip readers place number port ports pipes takes ok) order.1
+pipes-other_output readers place number [] pipes ok order = subst (EachTwo OtherOutput) (ap pipes_in ok) tt
+pipes-other_output readers place number (port ∷ ports) pipes ok order =
+    one_more (EachTwo OtherOutput) readers place number port ports pipes ok
+    (λ n more rest. pipes-other_output readers (place + 1) n ports more rest order.1)
+    (λ r more gives at among rest has. (
+      pipes-Every (OtherOutput (pipe_between port r)) readers (place + 1) (number + 1) ports more rest
+          (λ k p q there gives_too later among_too. other-output port p r q gives gives_too
+          (slice_get-Every (ComesBefore port) ports k p there order.0)),
+      has,
+    ))
 
 -- two pipes lead to two inputs
 abbrev pub OtherEnd : Pipe → Pipe → Type 0
@@ -124,8 +137,8 @@ one_place readers a b differ has_a has_b task port = by_cases (EachTwo-among Oth
   where
     by_cases : (a ≡ b) ⊎ (OtherInput a b ⊎ OtherInput b a) → a.place ≡ b.place
     by_cases (inl same) = ap (λ r. r.place) same
-    by_cases (inr (inl no)) = absurd (no task port)
-    by_cases (inr (inr no)) = absurd (no (sym task) (sym port))
+    by_cases (inr (inl never)) = absurd (never task port)
+    by_cases (inr (inr never)) = absurd (never (sym task) (sym port))
 
 -- readers of one pipe are one input
 one_input : (readers : List Reader) (a b : Reader) → EachTwo OtherPlace readers → Among readers a → Among readers b →
@@ -134,135 +147,108 @@ one_input readers a b differ has_a has_b place = by_cases (EachTwo-among OtherPl
   where
     by_cases : (a ≡ b) ⊎ (OtherPlace a b ⊎ OtherPlace b a) → (a.task ≡ b.task) × (a.port ≡ b.port)
     by_cases (inl same) = (ap (λ r. r.task) same, ap (λ r. r.port) same)
-    by_cases (inr (inl no)) = absurd (no place)
-    by_cases (inr (inr no)) = absurd (no (sym place))
+    by_cases (inr (inl never)) = absurd (never place)
+    by_cases (inr (inr never)) = absurd (never (sym place))
+
+other-end : (readers : List Reader) (place k : ℕ) (port p : PortValue) (r q : Reader) → EachTwo OtherInput readers →
+    Among readers r → Among readers q → r.place ≡ place → q.place ≡ place + 1 + k →
+    OtherEnd (pipe_between port r) (pipe_between p q)
+other-end readers place k port p r q differ among among_too at later same_task same_port =
+    let places : r.place ≡ q.place = one_place readers r q differ among among_too same_task same_port in
+    omega (arith, places, at, later)
 
 pub pipes-other_end : (readers : List Reader) (place number : ℕ) (ports : List PortValue) (pipes : List Pipe) →
     pipes_from readers place number ports ≡ Ok pipes → EachTwo OtherInput readers → EachTwo OtherEnd pipes
-pipes-other_end readers place number [] pipes ok differ = rw (nothing_joined pipes ok) tt
-pipes-other_end readers place number (port ∷ ports) pipes ok differ = by_side (cases_Bool port.gives)
-  where
-    other : (s : IsSplit readers place number port ports pipes) (k : ℕ) (p : PortValue) (r : Reader) →
-        r.place ≡ place + 1 + k → Among readers r → OtherEnd (pipe_between port s.reader) (pipe_between p r)
-    other s k p r later among same_task same_port =
-        let places : s.reader.place ≡ r.place =
-        one_place readers s.reader r differ s.among among same_task same_port in
-        omega (arith, places, s.at, later)
-
-    by_side : (port.gives ≡ true) ⊎ (port.gives ≡ false) → EachTwo OtherEnd pipes
-    by_side (inl gives) =
-        let s : IsSplit readers place number port ports pipes = split readers place number port ports pipes gives ok in
-        let first : Every (OtherEnd (pipe_between port s.reader)) s.more =
-        pipes-Every (OtherEnd (pipe_between port s.reader)) readers (place + 1) (number + 1) ports s.more s.rest
-        (λ k p r at gives_too later among. other s k p r later among) in
-        let rest : EachTwo OtherEnd s.more =
-        pipes-other_end readers (place + 1) (number + 1) ports s.more s.rest differ in
-        let both : EachTwo OtherEnd (pipe_between port s.reader ∷ s.more) = (first, rest) in
-        rw s.is both
-    by_side (inr takes) =
-        pipes-other_end readers (place + 1) number ports pipes
-        (skip readers place number port ports pipes takes ok) differ
+pipes-other_end readers place number [] pipes ok differ = subst (EachTwo OtherEnd) (ap pipes_in ok) tt
+pipes-other_end readers place number (port ∷ ports) pipes ok differ =
+    one_more (EachTwo OtherEnd) readers place number port ports pipes ok
+    (λ n more rest. pipes-other_end readers (place + 1) n ports more rest differ)
+    (λ r more gives at among rest has. (
+      pipes-Every (OtherEnd (pipe_between port r)) readers (place + 1) (number + 1) ports more rest
+          (λ k p q there gives_too later among_too.
+          other-end readers place k port p r q differ among among_too at later),
+      has,
+    ))
 
 -- a pipe comes from an output
-pub record HasPipeFrom (pipes : List Pipe) (task port : ℕ) : Type 0 where
+pub record HasPipeFrom (t n : ℕ) (pipes : List Pipe) : Type 0 where
   pub pipe : Pipe
   pub among : Among pipes pipe
-  pub task : pipe.from ≡ task
-  pub port : pipe.from_port ≡ port
+  pub task : pipe.from ≡ t
+  pub port : pipe.from_port ≡ n
 
-from-first : (port : PortValue) (r : Reader) (pipes more : List Pipe) → pipes ≡ pipe_between port r ∷ more →
-    HasPipeFrom pipes port.task port.port
-from-first port r pipes more is = rw is (record { pipe = pipe_between port r; among = inl refl; task = refl; port = refl })
-
-from-later : (first : Pipe) (pipes more : List Pipe) (task port : ℕ) → pipes ≡ first ∷ more →
-    HasPipeFrom more task port → HasPipeFrom pipes task port
-from-later first pipes more task port is has =
-    rw is (record { pipe = has.pipe; among = inr has.among; task = has.task; port = has.port })
+from-later : (t n : ℕ) (first : Pipe) (more : List Pipe) → HasPipeFrom t n more → HasPipeFrom t n (first ∷ more)
+from-later t n first more has = record { pipe = has.pipe; among = inr has.among; task = has.task; port = has.port }
 
 -- each output has a pipe
 pub outputs-have : (readers : List Reader) (place number : ℕ) (ports : List PortValue) (pipes : List Pipe)
     (p : PortValue) → pipes_from readers place number ports ≡ Ok pipes → Among ports p → p.gives ≡ true →
-    HasPipeFrom pipes p.task p.port
+    HasPipeFrom p.task p.port pipes
 outputs-have readers place number [] pipes p ok among gives = absurd among
-outputs-have readers place number (port ∷ ports) pipes p ok among gives = by_among among
-  where
-    by_side : Among ports p → (port.gives ≡ true) ⊎ (port.gives ≡ false) → HasPipeFrom pipes p.task p.port
-    by_side more (inl gives_too) =
-        let s : IsSplit readers place number port ports pipes =
-        split readers place number port ports pipes gives_too ok in
-        from-later (pipe_between port s.reader) pipes s.more p.task p.port s.is
-        (outputs-have readers (place + 1) (number + 1) ports s.more p s.rest more gives)
-    by_side more (inr takes) =
-        outputs-have readers (place + 1) number ports pipes p
-        (skip readers place number port ports pipes takes ok) more gives
-
-    by_among : (port ≡ p) ⊎ Among ports p → HasPipeFrom pipes p.task p.port
-    by_among (inl is) =
-        let s : IsSplit readers place number port ports pipes =
-        split readers place number port ports pipes (rw is gives) ok in
-        let here : HasPipeFrom pipes port.task port.port = from-first port s.reader pipes s.more s.is in
-        rw (sym is) here
-    by_among (inr more) = by_side more (cases_Bool port.gives)
+outputs-have readers place number (port ∷ ports) pipes p ok (inl is) gives =
+    let s : IsSplit readers place number port ports pipes =
+    split readers place number port ports pipes (ap (λ q. q.gives) is ∙ gives) ok in
+    subst (HasPipeFrom p.task p.port) (sym s.is)
+    (record {
+      pipe = pipe_between port s.reader;
+      among = inl refl;
+      task = ap (λ q. q.task) is;
+      port = ap (λ q. q.port) is;
+    })
+outputs-have readers place number (port ∷ ports) pipes p ok (inr more) gives =
+    one_more (HasPipeFrom p.task p.port) readers place number port ports pipes ok
+    (λ n rest joined. outputs-have readers (place + 1) n ports rest p joined more gives)
+    (λ r rest gives_too at among joined has. from-later p.task p.port (pipe_between port r) rest has)
 
 -- a pipe leads to an input
-pub record HasPipeTo (pipes : List Pipe) (task port : ℕ) : Type 0 where
+pub record HasPipeTo (t n : ℕ) (pipes : List Pipe) : Type 0 where
   pub pipe : Pipe
   pub among : Among pipes pipe
-  pub task : pipe.to ≡ task
-  pub port : pipe.to_port ≡ port
+  pub task : pipe.to ≡ t
+  pub port : pipe.to_port ≡ n
 
-to-later : (first : Pipe) (pipes more : List Pipe) (task port : ℕ) → pipes ≡ first ∷ more →
-    HasPipeTo more task port → HasPipeTo pipes task port
-to-later first pipes more task port is has =
-    rw is (record { pipe = has.pipe; among = inr has.among; task = has.task; port = has.port })
+to-later : (t n : ℕ) (first : Pipe) (more : List Pipe) → HasPipeTo t n more → HasPipeTo t n (first ∷ more)
+to-later t n first more has = record { pipe = has.pipe; among = inr has.among; task = has.task; port = has.port }
 
 -- each reader whose output is there has a pipe
 pub readers-have : (readers : List Reader) (place number : ℕ) (ports : List PortValue) (pipes : List Pipe)
     (k : ℕ) (p : PortValue) (r : Reader) → pipes_from readers place number ports ≡ Ok pipes →
     EachTwo OtherPlace readers → slice_get ports k ≡ Some p → p.gives ≡ true → r.place ≡ place + k →
-    Among readers r → HasPipeTo pipes r.task r.port
-readers-have readers place number [] pipes k p r ok differ at gives where_it_is among =
-    absurd (let no : None ≡ Some p = at in cc)
-readers-have readers place number (port ∷ ports) pipes zero p r ok differ at gives where_it_is among =
+    Among readers r → HasPipeTo r.task r.port pipes
+readers-have readers place number [] pipes k p r ok differ at gives there among =
+    absurd (let never : None ≡ Some p = at in cc)
+readers-have readers place number (port ∷ ports) pipes zero p r ok differ at gives there among =
     let same : port ≡ p = (let e : Some port ≡ Some p = at in grind arith) in
     let s : IsSplit readers place number port ports pipes =
-    split readers place number port ports pipes (rw same gives) ok in
+    split readers place number port ports pipes (ap (λ q. q.gives) same ∙ gives) ok in
+    let places : s.reader.place ≡ r.place = omega (arith, s.at, there) in
     let one : (s.reader.task ≡ r.task) × (s.reader.port ≡ r.port) =
-    one_input readers s.reader r differ s.among among (s.at ∙ sym where_it_is_0) in
-    rw s.is (record { pipe = pipe_between port s.reader; among = inl refl; task = one.0; port = one.1 })
-  where
-    where_it_is_0 : r.place ≡ place
-    where_it_is_0 = omega arith
-readers-have readers place number (port ∷ ports) pipes (suc k) p r ok differ at gives where_it_is among =
-    by_side (cases_Bool port.gives)
-  where
-    later : r.place ≡ place + 1 + k
-    later = omega arith
-
-    by_side : (port.gives ≡ true) ⊎ (port.gives ≡ false) → HasPipeTo pipes r.task r.port
-    by_side (inl gives_too) =
-        let s : IsSplit readers place number port ports pipes =
-        split readers place number port ports pipes gives_too ok in
-        to-later (pipe_between port s.reader) pipes s.more r.task r.port s.is
-        (readers-have readers (place + 1) (number + 1) ports s.more k p r s.rest differ at gives later among)
-    by_side (inr takes) =
-        readers-have readers (place + 1) number ports pipes k p r
-        (skip readers place number port ports pipes takes ok) differ at gives later among
+    one_input readers s.reader r differ s.among among places in
+    subst (HasPipeTo r.task r.port) (sym s.is)
+    (record { pipe = pipe_between port s.reader; among = inl refl; task = one.0; port = one.1 })
+readers-have readers place number (port ∷ ports) pipes (suc k) p r ok differ at gives there among =
+    one_more (HasPipeTo r.task r.port) readers place number port ports pipes ok
+    (λ n more joined. readers-have readers (place + 1) n ports more k p r joined differ at gives
+    (there ∙ omega arith) among)
+    (λ q more gives_too at_too among_too joined has. to-later r.task r.port (pipe_between port q) more has)
 
 -- there are as many pipes as outputs
 pub length-pipes : (readers : List Reader) (place number : ℕ) (ports : List PortValue) (pipes : List Pipe) →
     pipes_from readers place number ports ≡ Ok pipes → length pipes ≡ count_by (λ p. p.gives) ports
-length-pipes readers place number [] pipes ok = rw (nothing_joined pipes ok) refl
-length-pipes readers place number (port ∷ ports) pipes ok = by_side (cases_Bool port.gives)
+length-pipes readers place number [] pipes ok = ap length (sym (ap pipes_in ok))
+length-pipes readers place number (port ∷ ports) pipes ok =
+    by_side (cases_Bool port.gives) (count_by-cons (λ p. p.gives) port ports)
+    (λ n more joined. length-pipes readers (place + 1) n ports more joined)
   where
     by_side : (port.gives ≡ true) ⊎ (port.gives ≡ false) →
+        count_by (λ p. p.gives) (port ∷ ports) ≡ cond port.gives 1 0 + count_by (λ p. p.gives) ports →
+        ((n : ℕ) (more : List Pipe) → pipes_from readers (place + 1) n ports ≡ Ok more →
+        length more ≡ count_by (λ p. p.gives) ports) →
         length pipes ≡ count_by (λ p. p.gives) (port ∷ ports)
-    by_side (inl gives) =
+    by_side (inl gives) counts later =
         let s : IsSplit readers place number port ports pipes = split readers place number port ports pipes gives ok in
-        let more : length s.more ≡ count_by (λ p. p.gives) ports =
-        length-pipes readers (place + 1) (number + 1) ports s.more s.rest in
-        rw (s.is, gives) (omega arith)
-    by_side (inr takes) =
-        let same : length pipes ≡ count_by (λ p. p.gives) ports =
-        length-pipes readers (place + 1) number ports pipes (skip readers place number port ports pipes takes ok) in
-        rw takes (omega arith)
+        let one : cond {A = ℕ} port.gives 1 0 ≡ 1 = rw gives refl in
+        omega (arith, ap length s.is, later (number + 1) s.more s.rest, counts, one)
+    by_side (inr takes) counts later =
+        let none : cond {A = ℕ} port.gives 1 0 ≡ 0 = rw takes refl in
+        omega (arith, later number pipes (skip readers place number port ports pipes takes ok), counts, none)

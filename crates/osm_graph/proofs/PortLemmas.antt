@@ -23,11 +23,11 @@ names_at task true = task.outputs
 names_at task false = task.inputs
 
 -- what ports of one side have: the task, the side, the kind, and numbers from the first on
-pub record IsNumbered (task : ℕ) (gives : Bool) (low high : ℕ) (p : PortValue) : Type 0 where
-  pub task : p.task ≡ task
-  pub gives : p.gives ≡ gives
-  pub low : low ≤ p.port
-  pub high : p.port < high
+pub record IsNumbered (t : ℕ) (side : Bool) (least most : ℕ) (p : PortValue) : Type 0 where
+  pub task : p.task ≡ t
+  pub gives : p.gives ≡ side
+  pub low : least ≤ p.port
+  pub high : p.port < most
 
 side-numbered : (task : ℕ) (kind : TaskKind) (gives : Bool) (port : ℕ) (names : List (Option (List ℕ))) →
     Every (IsNumbered task gives port (port + length names)) (side_ports task kind gives port names)
@@ -163,12 +163,12 @@ ports-known n (task ∷ tasks) =
     (ports_from (n + 1) tasks) (ports-known (n + 1) tasks))
 
 -- a port with this task, side and number is in a list
-pub record HasPort (ports : List PortValue) (task : ℕ) (gives : Bool) (number : ℕ) : Type 0 where
+pub record HasPort (ports : List PortValue) (t : ℕ) (side : Bool) (n : ℕ) : Type 0 where
   pub p : PortValue
   pub among : Among ports p
-  pub task : p.task ≡ task
-  pub gives : p.gives ≡ gives
-  pub number : p.port ≡ number
+  pub task : p.task ≡ t
+  pub gives : p.gives ≡ side
+  pub number : p.port ≡ n
 
 side-has : (task : ℕ) (kind : TaskKind) (gives : Bool) (port k : ℕ) (names : List (Option (List ℕ))) →
     k < length names → HasPort (side_ports task kind gives port names) task gives (port + k)

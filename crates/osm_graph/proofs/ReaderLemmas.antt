@@ -4,10 +4,11 @@ use Rattle.std.proofs.Common.{◌≡◌, ◌<◌, ◌≤◌, ◌+◌, ◌⊎◌,
 use Rattle.std.specs.Prelude.{slice_get, if◌then◌else◌}
 use Rattle.std.specs.Option.{option_or}
 use Rattle.std.proofs.lemmas.Bool.{cases_Bool}
-use Rattle.osm_graph.specs.Joining.{has_flow, is_taken, input_fault, output_fault, port_fault, ports_fault, reader_from, reader_of, readers_of}
+use Rattle.osm_graph.specs.Joining.{has_flow, is_taken, no_source, input_fault, output_fault, port_fault, ports_fault, reader_from, reader_of, readers_of}
 use Rattle.osm_graph.specs.Matching.{source_place}
 use Rattle.osm_graph.specs.Ports.{PortValue}
 use Rattle.osm_graph.specs.declared.fault.GraphError.{GraphError}
+use Rattle.osm_graph.specs.declared.fault.GraphError.TheVariants.{PipeTaken}
 use Rattle.osm_graph.specs.declared.joining.Reader.{Reader}
 use Rattle.osm_graph.proofs.ListLemmas.{Every, EachTwo, Among, Among-right, Every-then, Every-among}
 use Rattle.osm_graph.proofs.MatchLemmas.{IsSource, source-is, source-alone, slice_get-append}
@@ -31,19 +32,33 @@ pub record IsJoined (earlier : List PortValue) (port : PortValue) : Type 0 where
   pub source : source_place earlier port.name ≡ Some place
   pub free : is_taken earlier port.name ≡ false
 
+-- the fault of a port, by its side
+pub takes-fault : (earlier : List PortValue) (port : PortValue) → port.gives ≡ false →
+    port_fault earlier port ≡ input_fault earlier port (source_place earlier port.name)
+takes-fault earlier port takes = rw takes refl
+
+pub gives-fault : (earlier : List PortValue) (port : PortValue) → port.gives ≡ true →
+    port_fault earlier port ≡ output_fault earlier port
+gives-fault earlier port gives = rw gives refl
+
+taken-fault : (earlier : List PortValue) (port : PortValue) (o : ℕ) → is_taken earlier port.name ≡ true →
+    input_fault earlier port (Some o) ≡ Some (PipeTaken port.task port.port)
+taken-fault earlier port o taken = rw taken refl
+
 pub input-joined : (earlier : List PortValue) (port : PortValue) → port.gives ≡ false →
     port_fault earlier port ≡ None → IsJoined earlier port
 input-joined earlier port takes fine =
-    by_source (source_place earlier port.name) refl (sym (rw takes refl) ∙ fine)
+    by_source (source_place earlier port.name) refl (sym (takes-fault earlier port takes) ∙ fine)
   where
     by_free : (o : ℕ) → source_place earlier port.name ≡ Some o → (b : Bool) → is_taken earlier port.name ≡ b →
         input_fault earlier port (Some o) ≡ None → IsJoined earlier port
-    by_free o is true taken fine = absurd (no_fault _ (sym (rw taken refl) ∙ fine))
+    by_free o is true taken fine =
+        absurd (no_fault (PipeTaken port.task port.port) (sym (taken-fault earlier port o taken) ∙ fine))
     by_free o is false free fine = record { place = o; source = is; free = free }
 
     by_source : (source : Option ℕ) → source_place earlier port.name ≡ source →
         input_fault earlier port source ≡ None → IsJoined earlier port
-    by_source None is fine = absurd (no_fault _ fine)
+    by_source None is fine = absurd (no_fault (no_source port port.name) fine)
     by_source (Some o) is fine = by_free o is (is_taken earlier port.name) refl fine
 
 -- the readers among ports, with the first port apart
@@ -180,7 +195,7 @@ pub record HasOutput (ports : List PortValue) (r : Reader) : Type 0 where
 
 pub slice_get-Every : (P : PortValue → Type 0) (ports : List PortValue) (o : ℕ) (port : PortValue) →
     slice_get ports o ≡ Some port → Every P ports → P port
-slice_get-Every P [] o port is has = absurd (let no : None ≡ Some port = is in cc)
+slice_get-Every P [] o port is has = absurd (let never : None ≡ Some port = is in cc)
 slice_get-Every P (first ∷ ports) zero port is has =
     let same : first ≡ port = (let e : Some first ≡ Some port = is in grind arith) in rw (sym same) has.0
 slice_get-Every P (first ∷ ports) (suc o) port is has = slice_get-Every P ports o port is has.1
@@ -204,13 +219,14 @@ has-output earlier ports port takes joined order =
     let before : ComesBefore source.port port =
     slice_get-Every (λ p. ComesBefore p port) earlier joined.place source.port source.at
     (before-this earlier ports port order) in
-    let side : side_of source.port.task true ≤ side_of port.task false =
-    rw (sym source.gives, sym takes) before.side in
+    let gives : side_of source.port.task source.port.gives ≡ side_of source.port.task true =
+    ap (side_of source.port.task) source.gives in
+    let takes_it : side_of port.task port.gives ≡ side_of port.task false = ap (side_of port.task) takes in
     record {
       port = source.port;
       at = slice_get-append earlier (port ∷ ports) joined.place source.port source.at;
       gives = source.gives;
-      before = omega arith;
+      before = omega (arith, before.side, gives, takes_it);
     }
 
 pub readers-have_outputs : (earlier ports : List PortValue) → ports_fault earlier ports ≡ None →
@@ -235,11 +251,11 @@ readers-have_outputs earlier (port ∷ ports) fine order =
         (takes-reader earlier port ports takes joined) (has-output earlier ports port takes joined order, rest)
 
 -- an input is a reader
-pub record HasReader (readers : List Reader) (port : PortValue) : Type 0 where
+pub record HasReader (readers : List Reader) (p : PortValue) : Type 0 where
   pub reader : Reader
   pub among : Among readers reader
-  pub task : reader.task ≡ port.task
-  pub port : reader.port ≡ port.port
+  pub task : reader.task ≡ p.task
+  pub port : reader.port ≡ p.port
 
 HasReader-same : (xs ys : List Reader) (port : PortValue) → xs ≡ ys → HasReader ys port → HasReader xs port
 HasReader-same xs ys port is has = rw is has
@@ -250,7 +266,7 @@ inputs-read earlier [] port fine among takes = absurd among
 inputs-read earlier (first ∷ ports) port fine among takes =
     let faults : (port_fault earlier first ≡ None) × (ports_fault (earlier ++ first ∷ []) ports ≡ None) =
     neither _ _ fine in
-    by_among among faults
+    by_among among faults (λ more. inputs-read (earlier ++ first ∷ []) ports port faults.1 more takes)
   where
     later : HasReader (readers_of (earlier ++ first ∷ []) ports) port → port_fault earlier first ≡ None →
         (first.gives ≡ true) ⊎ (first.gives ≡ false) → HasReader (readers_of earlier (first ∷ ports)) port
@@ -263,8 +279,9 @@ inputs-read earlier (first ∷ ports) port fine among takes =
 
     by_among : (first ≡ port) ⊎ Among ports port →
         (port_fault earlier first ≡ None) × (ports_fault (earlier ++ first ∷ []) ports ≡ None) →
+        (Among ports port → HasReader (readers_of (earlier ++ first ∷ []) ports) port) →
         HasReader (readers_of earlier (first ∷ ports)) port
-    by_among (inl is) faults =
+    by_among (inl is) faults rest =
         let takes_too : first.gives ≡ false = rw is takes in
         let joined : IsJoined earlier first = input-joined earlier first takes_too faults.0 in
         HasReader-same _ (reader_at first joined.place ∷ readers_of (earlier ++ first ∷ []) ports) port
@@ -275,5 +292,4 @@ inputs-read earlier (first ∷ ports) port fine among takes =
           task = ap (λ p. p.task) is;
           port = ap (λ p. p.port) is;
         })
-    by_among (inr more) faults =
-        later (inputs-read (earlier ++ first ∷ []) ports port faults.1 more takes) faults.0 (cases_Bool first.gives)
+    by_among (inr more) faults rest = later (rest more) faults.0 (cases_Bool first.gives)

@@ -1,14 +1,15 @@
 -- One port or one task more in each walk.
 use Rattle.std.proofs.Common.{◌≡◌, ◌<◌, ◌+◌, ℕ, suc, Bool, true, false, List, ◌∷◌, [], ◌++◌, length, take, drop, drop-cons, get_or, Option, None, Some, Result, Ok, Err, refl, sym, ap, ◌∙◌, append_assoc, arith}
-use Rattle.std.specs.Prelude.{◌==◌, find}
-use Rattle.std.specs.Option.{option_or}
+use Rattle.std.specs.Prelude.{◌==◌, find, position}
+use Rattle.std.specs.Option.{option_map, option_or}
 use Rattle.std.proofs.lemmas.List.{take_more, length_push}
 use Rattle.osm_tasks.specs.Tasks.{TaskValue}
-use Rattle.osm_graph.specs.Files.{task_clash, file_fault_from}
+use Rattle.osm_tasks.specs.declared.kind.TaskKind.{TaskKind}
+use Rattle.osm_graph.specs.Files.{clashes, task_clash, file_fault_from}
 use Rattle.osm_graph.specs.Joining.{port_fault, ports_fault, reader_of, readers_of, pipe_between, joined_pipe, pipes_from}
-use Rattle.osm_graph.specs.Ports.{PortValue}
+use Rattle.osm_graph.specs.Ports.{PortValue, ports_of_task, ports_from}
 use Rattle.osm_graph.specs.declared.fault.GraphError.{GraphError}
-use Rattle.osm_graph.specs.declared.fault.GraphError.TheVariants.{UnusedPipes}
+use Rattle.osm_graph.specs.declared.fault.GraphError.TheVariants.{SameFile, UnusedPipes}
 use Rattle.osm_graph.specs.declared.joining.Reader.{Reader}
 use Rattle.osm_graph.specs.declared.pipe.Pipe.{Pipe}
 
@@ -23,6 +24,17 @@ rest_at xs at x within is =
 front_at : {X : Type 0} (xs : List X) (at : ℕ) (x : X) → at < length xs → x ≡ get_or xs at x →
     take (at + 1) xs ≡ take at xs ++ x ∷ []
 front_at xs at x within is = take_more xs at x within ∙ ap (λ y. take at xs ++ y ∷ []) (sym is)
+
+-- the ports of one task more
+pub ports-step : (tasks : List TaskValue) (at n : ℕ) (task : TaskValue) (whole done pushed : List PortValue) →
+    at < length tasks → task ≡ get_or tasks at task → n ≡ at → pushed ≡ done ++ ports_of_task n task →
+    whole ≡ done ++ ports_from at (drop at tasks) → whole ≡ pushed ++ ports_from (at + 1) (drop (at + 1) tasks)
+ports-step tasks at n task whole done pushed within is same added before =
+    before
+    ∙ ap (λ rest. done ++ ports_from at rest) (rest_at tasks at task within is)
+    ∙ sym (append_assoc done (ports_of_task at task) (ports_from (at + 1) (drop (at + 1) tasks)))
+    ∙ ap (λ k. done ++ ports_of_task k task ++ ports_from (at + 1) (drop (at + 1) tasks)) (sym same)
+    ∙ ap (λ front. front ++ ports_from (at + 1) (drop (at + 1) tasks)) (sym added)
 
 -- what is left of the faults with its first port apart
 faults_at : (ports : List PortValue) (at : ℕ) (port : PortValue) → at < length ports → port ≡ get_or ports at port →
@@ -107,13 +119,15 @@ pipes-step readers ports at port reader whole done pushed within is gives found 
 
 -- an input joins no pipe
 pub pipes-skip : (readers : List Reader) (ports : List PortValue) (at : ℕ) (port : PortValue)
-    (whole : Result (List Pipe) GraphError) (done : List Pipe) → at < length ports → port ≡ get_or ports at port →
-    port.gives ≡ false → whole ≡ after_pipes done (pipes_from readers at (length done) (drop at ports)) →
-    whole ≡ after_pipes done (pipes_from readers (at + 1) (length done) (drop (at + 1) ports))
-pipes-skip readers ports at port whole done within is takes before =
+    (whole : Result (List Pipe) GraphError) (done same : List Pipe) → same ≡ done → at < length ports →
+    port ≡ get_or ports at port → port.gives ≡ false →
+    whole ≡ after_pipes done (pipes_from readers at (length done) (drop at ports)) →
+    whole ≡ after_pipes same (pipes_from readers (at + 1) (length same) (drop (at + 1) ports))
+pipes-skip readers ports at port whole done same stays within is takes before =
     before
     ∙ ap (λ rest. after_pipes done (pipes_from readers at (length done) rest)) (rest_at ports at port within is)
     ∙ ap (after_pipes done) (rw takes refl)
+    ∙ ap (λ pipes. after_pipes pipes (pipes_from readers (at + 1) (length pipes) (drop (at + 1) ports))) (sym stays)
 
 -- an output that nobody reads settles it
 pub pipes-end : (readers : List Reader) (ports : List PortValue) (at : ℕ) (port : PortValue)
@@ -136,6 +150,26 @@ files_at tasks at task within is =
     ap (file_fault_from at (take at tasks)) (rest_at tasks at task within is)
     ∙ ap (λ front. option_or (task_clash at task (take at tasks)) (file_fault_from (at + 1) front (drop (at + 1) tasks)))
     (sym (front_at tasks at task within is))
+
+-- a task has the file of an earlier one
+pub clash-found : (tasks cut : List TaskValue) (at earlier n m : ℕ) (kind : TaskKind) (task : TaskValue) →
+    cut ≡ take at tasks → kind ≡ task.kind → position (λ t. clashes t.kind kind) cut ≡ Some earlier → n ≡ at →
+    m ≡ earlier → task_clash at task (take at tasks) ≡ Some (SameFile n m)
+clash-found tasks cut at earlier n m kind task is same found number other =
+    let there : position (λ t. clashes t.kind task.kind) (take at tasks) ≡ Some earlier =
+    ap (position (λ t. clashes t.kind task.kind)) (sym is)
+    ∙ ap (λ k. position (λ t. clashes t.kind k) cut) (sym same) ∙ found in
+    ap (option_map (λ e. SameFile at e)) there ∙ ap (λ e. Some (SameFile at e)) (sym other)
+    ∙ ap (λ a. Some (SameFile a m)) (sym number)
+
+-- a task has the file of no earlier one
+pub clash-none : (tasks cut : List TaskValue) (at : ℕ) (kind : TaskKind) (task : TaskValue) → cut ≡ take at tasks →
+    kind ≡ task.kind → position (λ t. clashes t.kind kind) cut ≡ None → task_clash at task (take at tasks) ≡ None
+clash-none tasks cut at kind task is same none =
+    let there : position (λ t. clashes t.kind task.kind) (take at tasks) ≡ None =
+    ap (position (λ t. clashes t.kind task.kind)) (sym is)
+    ∙ ap (λ k. position (λ t. clashes t.kind k) cut) (sym same) ∙ none in
+    ap (option_map (λ e. SameFile at e)) there
 
 pub files-step : (tasks : List TaskValue) (at : ℕ) (task : TaskValue) (whole : Option GraphError) →
     at < length tasks → task ≡ get_or tasks at task → task_clash at task (take at tasks) ≡ None →

@@ -13,7 +13,7 @@ use Rattle.osm_graph.specs.Ports.{PortValue, store_before, side_ports, ports_of_
 use Rattle.osm_graph.specs.declared.fault.GraphError.{GraphError}
 use Rattle.osm_graph.specs.declared.fault.GraphError.TheVariants.{TooManyPipes, PipeTwice}
 use Rattle.osm_graph.proofs.ListLemmas.{Every, Every-append}
-use Rattle.osm_graph.proofs.ReaderLemmas.{neither, no_fault}
+use Rattle.osm_graph.proofs.ReaderLemmas.{neither, no_fault, gives-fault}
 
 -- how many ports are outputs
 abbrev pub outputs_among : List PortValue → ℕ
@@ -45,7 +45,8 @@ few-outputs earlier (port ∷ ports) fine few =
     by_side : (port.gives ≡ true) ⊎ (port.gives ≡ false) → port_fault earlier port ≡ None →
         outputs_among (earlier ++ port ∷ []) ≤ most_pipes
     by_side (inl gives) fine =
-        let room : outputs_among earlier < most_pipes = room-left earlier port (sym (rw gives refl) ∙ fine) in
+        let room : outputs_among earlier < most_pipes =
+        room-left earlier port (sym (gives-fault earlier port gives) ∙ fine) in
         let one : outputs_among (port ∷ []) ≡ 1 = rw gives refl in
         omega (arith, outputs-append earlier (port ∷ []), one)
     by_side (inr takes) fine =

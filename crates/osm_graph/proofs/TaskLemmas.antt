@@ -56,12 +56,14 @@ length-listed f zero = refl
 length-listed f (suc n) = ap suc (length-listed f n)
 
 listed-below : (f : ℕ → ℕ) (n m q : ℕ) → ((i : ℕ) → i < n → f i < m) → list_any (λ x. q == x) (listed f n) ≡ true → q < m
-listed-below f zero m q below any = absurd (let no : false ≡ true = any in cc)
-listed-below f (suc n) m q below any = by_cases (or_cases _ _ any)
+listed-below f zero m q below any = absurd (let never : false ≡ true = any in cc)
+listed-below f (suc n) m q below any =
+    by_cases (or_cases _ _ any) (λ more. listed-below f n m q (λ i less. below i (omega arith)) more)
   where
-    by_cases : ((q == f n) ≡ true) ⊎ (list_any (λ x. q == x) (listed f n) ≡ true) → q < m
-    by_cases (inl here) = omega (arith, eqb-true q (f n) here, below n (omega arith))
-    by_cases (inr more) = listed-below f n m q (λ i less. below i (omega arith)) more
+    by_cases : ((q == f n) ≡ true) ⊎ (list_any (λ x. q == x) (listed f n) ≡ true) →
+        (list_any (λ x. q == x) (listed f n) ≡ true → q < m) → q < m
+    by_cases (inl here) later = omega (arith, eqb-true q (f n) here, below n (omega arith))
+    by_cases (inr more) later = later more
 
 apart-listed : (f : ℕ → ℕ) (n x : ℕ) → ((i : ℕ) → i < n → x ≡ f i → ⊥) →
     AllByRecursion (λ y. (x == y) ≡ false) (listed f n)
@@ -121,8 +123,8 @@ has-end pipes t (Some p) out is_into is_out some =
 has-end pipes t None (Some p) is_into is_out some =
     let there : (p < length pipes) × ((pipe_of pipes p).from ≡ t) = out-is pipes t 0 p is_out in
     record { pipe = p; known = there.0; is = inr (refl, there.1) }
-has-end pipes t None None is_into is_out (inl some) = absurd (let no : false ≡ true = some in cc)
-has-end pipes t None None is_into is_out (inr some) = absurd (let no : false ≡ true = some in cc)
+has-end pipes t None None is_into is_out (inl some) = absurd (let never : false ≡ true = some in cc)
+has-end pipes t None None is_into is_out (inr some) = absurd (let never : false ≡ true = some in cc)
 
 end-below : (pipes : List Pipe) (t n : ℕ) → IsEndAt pipes t n → n < length pipes + length pipes
 end-below pipes t n end = by_cases end.is

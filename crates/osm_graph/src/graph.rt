@@ -1,6 +1,7 @@
 //! The graph of a command: its tasks, and the pipes between them.
 ghost use Rattle.std.specs.Prelude.{◌≡◌, ◌<◌, length};
-ghost use Rattle.osm_graph.specs.Graphs.{IsGraph, pipe_of};
+ghost use Rattle.osm_graph.specs.Graphs.{IsGraph};
+ghost use Rattle.osm_graph.specs.Pipes.{pipe_of};
 
 use crate::pipe::Pipe;
 use osm_entity::Sequence;

@@ -1,8 +1,11 @@
 //! Joins the ports of a command: readers first, then the pipes to them.
-ghost use Rattle.std.specs.Prelude.{◌≡◌, ◌≢◌, ◌==◌, ◌∷◌, [], None, Some, Ok, Err, IfOk, IfErr, OnOk, find, slice_get};
+ghost use Rattle.std.specs.Prelude.{◌≡◌, ◌≢◌, ◌==◌, ◌∷◌, [], All, None, Some, Ok, Err, IfOk, IfErr, OnOk, find, slice_get};
+ghost use Rattle.std.specs.List.{list_any};
 ghost use Rattle.std.specs.Option.{option_copied};
 ghost use Rattle.std.specs.Result.{result_err};
-ghost use Rattle.osm_graph.specs.Joining.{has_flow, input_fault, is_put, is_taken, joined_ports, output_fault, pipe_between, pipes_from, port_fault, ports_fault, reader_of, readers_of};
+ghost use Rattle.osm_tasks.specs.Tasks.{IsTask};
+ghost use Rattle.osm_graph.specs.Joining.{has_flow, input_fault, is_put, is_taken, joined_ports, output_fault, pipe_between, pipes_from, port_fault, ports_fault, reader_from, reader_of, readers_of};
+ghost use Rattle.osm_graph.specs.Matching.{puts_named, source_place, takes_named};
 ghost use Rattle.osm_graph.specs.Ports.{ports_of};
 ghost use Rattle.osm_graph.specs.declared.fault.GraphError.TheVariants.{Memory};
 
@@ -34,6 +37,7 @@ type Readers = Sequence<Reader>;
 /// The pipes between all ports of a command.
 pub(crate) fn join(alloc: Global, tasks: &[Task]) -> Result<Pipes, GraphError>
     ensures ok { IfOk result (λ pipes. joined_ports (ports_of tasks.now) ≡ Ok pipes) }
+    ensures kept { OnOk result (All IsTask tasks.now) }
     ensures refused { IfErr result (λ e. e ≢ Memory → joined_ports (ports_of tasks.now) ≡ Err e) }
 {
     let ports = ports_of(alloc, tasks)?;
@@ -78,7 +82,7 @@ fn is_put(earlier: &[Port], port: &Port) -> bool
     ensures { result ≡ is_put earlier.now port.now.name }
 {
     match port.name {
-        Some(name) => earlier.iter().any(|other| other.puts(name)),
+        Some(name) => any_puts(earlier, name),
         None => false,
     }
 }
@@ -87,9 +91,21 @@ fn is_taken(earlier: &[Port], port: &Port) -> bool
     ensures { result ≡ is_taken earlier.now port.now.name }
 {
     match port.name {
-        Some(name) => earlier.iter().any(|other| other.takes(name)),
+        Some(name) => any_takes(earlier, name),
         None => false,
     }
+}
+
+fn any_puts(earlier: &[Port], name: &Text) -> bool
+    ensures { result ≡ list_any (puts_named name.now) earlier.now }
+{
+    earlier.iter().any(|port| port.puts(name))
+}
+
+fn any_takes(earlier: &[Port], name: &Text) -> bool
+    ensures { result ≡ list_any (takes_named name.now) earlier.now }
+{
+    earlier.iter().any(|port| port.takes(name))
 }
 
 fn has_flow(flow: Flow, port: Option<&Port>) -> bool
@@ -138,7 +154,7 @@ fn pipes_of(alloc: Global, ports: &[Port], readers: &[Reader]) -> Result<Pipes, 
     let mut pipes = Pipes::new(alloc);
     for (place, port) in ports.iter().enumerate() {
         if port.gives {
-            match readers.iter().find(|reader| reader.place == place) {
+            match reader_at(readers, place) {
                 Some(reader) => pipes.push(pipe_between(port, reader))?,
                 None => {
                     let pipe = number_of(pipes.len())?;
@@ -150,8 +166,15 @@ fn pipes_of(alloc: Global, ports: &[Port], readers: &[Reader]) -> Result<Pipes, 
     Ok(pipes)
 }
 
-fn pipe_between(from: &Port, to: &Reader) -> Pipe
-    ensures { result ≡ pipe_between from.now to.now }
+// The reader of the pipe that is put at a place.
+fn reader_at(readers: &[Reader], place: usize) -> Option<Reader>
+    ensures { result ≡ find (λ r. r.place == place) readers.now }
+{
+    readers.iter().copied().find(|reader| reader.place == place)
+}
+
+fn pipe_between(from: &Port, to: Reader) -> Pipe
+    ensures { result ≡ pipe_between from.now to }
 {
     Pipe {
         from: from.task,

@@ -1,5 +1,5 @@
 //! Which output's pipe an input takes.
-ghost use Rattle.std.specs.Prelude.{◌≡◌};
+ghost use Rattle.std.specs.Prelude.{◌≡◌, position};
 ghost use Rattle.osm_graph.specs.Matching.{is_pipe_named, is_closing, is_opening, matching_place, puts_named, source_place, takes_named};
 
 use crate::port::Port;
@@ -49,9 +49,15 @@ pub(crate) fn source_place(earlier: &[Port], input: &Port) -> Option<usize>
     ensures { result ≡ source_place earlier.now input.now.name }
 {
     match input.name {
-        Some(name) => earlier.iter().position(|port| port.puts(name)),
+        Some(name) => named_place(earlier, name),
         None => matching_place(earlier),
     }
+}
+
+fn named_place(earlier: &[Port], name: &Text) -> Option<usize>
+    ensures { result ≡ position (puts_named name.now) earlier.now }
+{
+    earlier.iter().position(|port| port.puts(name))
 }
 
 // Goes back from the last port, and counts what opened and what closed on the way.

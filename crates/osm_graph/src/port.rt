@@ -1,5 +1,6 @@
 //! The ports of the tasks of a command, in the order in which they are joined.
-ghost use Rattle.std.specs.Prelude.{◌≡◌, ◌++◌, IfOk, IfErr, OnOk};
+ghost use Rattle.std.specs.Prelude.{◌≡◌, ◌++◌, All, IfOk, IfErr, OnOk};
+ghost use Rattle.osm_tasks.specs.Tasks.{IsTask};
 ghost use Rattle.osm_graph.specs.Ports.{flow_at, ports_of, ports_of_task, side_ports, store_before};
 ghost use Rattle.osm_graph.specs.declared.fault.GraphError.TheVariants.{Memory};
 
@@ -47,10 +48,12 @@ pub(crate) type Ports<'a> = Sequence<Port<'a>>;
 /// The ports of all tasks: task by task, inputs before outputs.
 pub(crate) fn ports_of(alloc: Global, tasks: &[Task]) -> Result<Ports<'_>, GraphError>
     ensures ok { IfOk result (λ ports. ports ≡ ports_of tasks.now) }
+    ensures kept { OnOk result (All IsTask tasks.now) }
     ensures err { IfErr result (λ e. e ≡ Memory) }
 {
     let mut ports = Ports::new(alloc);
     for (at, task) in tasks.iter().enumerate() {
+        task.kept();
         let number = number_of(at)?;
         push_task(&mut ports, number, task)?;
     }
