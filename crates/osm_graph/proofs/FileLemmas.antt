@@ -1,15 +1,14 @@
 -- Without a fault of files no task has the file of another, where one of the two writes it.
-use Rattle.std.proofs.Common.{◌≡◌, ◌<◌, ◌≤◌, ◌+◌, ◌⊎◌, ℕ, zero, suc, Bool, true, false, List, ◌∷◌, [], ◌++◌, length, get_or, Option, None, Some, refl, sym, ap, inl, inr, ◌∙◌, append_assoc, arith}
+use Rattle.std.proofs.Common.{◌≡◌, ◌<◌, ◌≤◌, ◌+◌, ◌⊎◌, ℕ, zero, suc, Bool, false, List, ◌∷◌, [], ◌++◌, length, get_or, Option, None, Some, refl, sym, inl, inr, ◌∙◌, append_assoc, arith}
 use Rattle.std.specs.Prelude.{position}
 use Rattle.std.specs.List.{position_or_len}
-use Rattle.std.specs.Option.{option_map, option_or}
+use Rattle.std.specs.Option.{option_map}
 use Rattle.std.proofs.lemmas.Bool.{cases_lt, lt-ltb}
-use Rattle.std.proofs.lemmas.List.{get_or-append-add, get_or_append_left, length-append}
+use Rattle.std.proofs.lemmas.List.{get_or_append_left, length-append}
 use Rattle.std.proofs.lemmas.List.Sums.{fails_before_first}
 use Rattle.osm_tasks.specs.Tasks.{TaskValue}
 use Rattle.osm_graph.specs.Files.{clashes, task_clash, file_fault_from, file_fault}
 use Rattle.osm_graph.specs.Graphs.{no_task}
-use Rattle.osm_graph.specs.declared.fault.GraphError.{GraphError}
 use Rattle.osm_graph.specs.declared.fault.GraphError.TheVariants.{SameFile}
 use Rattle.osm_graph.proofs.ReaderLemmas.{neither, no_fault}
 

@@ -1,8 +1,7 @@
 -- What every graph keeps follows for the pipes of a command.
-use Rattle.std.proofs.Common.{◌≡◌, ◌<◌, ◌≤◌, ◌+◌, ◌⊎◌, ℕ, zero, suc, Bool, true, false, List, ◌∷◌, [], ◌++◌, length, get_or, Option, None, Some, Result, Ok, Err, refl, sym, ap, subst, inl, inr, ◌∙◌, append_assoc, arith}
-use Rattle.std.specs.Prelude.{slice_get, count_by, nat_le, ◌==◌, ◌&&◌, position, All, IsSome, IsTrue, if◌then◌else◌}
-use Rattle.std.specs.Option.{option_or}
-use Rattle.std.proofs.lemmas.Bool.{cases_Bool, cases_eq, eqb-true, eq-eqb, ne_eqb, and_from, and_left, and_right}
+use Rattle.std.proofs.Common.{◌≡◌, ◌<◌, ◌≤◌, ◌+◌, ◌⊎◌, ℕ, Bool, true, false, List, [], length, get_or, Option, None, Some, Ok, Err, refl, sym, ap, subst, inl, inr, ◌∙◌, arith}
+use Rattle.std.specs.Prelude.{slice_get, ◌==◌, ◌&&◌, All, IsSome}
+use Rattle.std.proofs.lemmas.Bool.{cases_eq, eq-eqb, ne_eqb, and_from, and_left, and_right}
 use Rattle.osm_tasks.specs.Tasks.{TaskValue, IsTask}
 use Rattle.osm_graph.specs.Files.{file_fault}
 use Rattle.osm_graph.specs.Graphs.{no_task, count_inputs, count_outputs, most_pipes, holds_messages, IsGraph}
@@ -15,10 +14,10 @@ use Rattle.osm_graph.specs.declared.pipe.Pipe.{Pipe}
 use Rattle.osm_graph.proofs.FileLemmas.{files-apart}
 use Rattle.osm_graph.proofs.ListLemmas.{Every, EachTwo, Among, Every-from_All, Every-then, Every-among, Every-get_or, EachTwo-get_or, position-here, position-some}
 use Rattle.osm_graph.proofs.PipeLemmas.{OtherOutput, OtherEnd, HasPipeFrom, HasPipeTo, pipes-Every, pipes-other_output, pipes-other_end, outputs-have, readers-have, length-pipes}
-use Rattle.osm_graph.proofs.PortLemmas.{ComesBefore, IsPortOf, HasPort, names_at, ports-in_order, ports-known, ports-have}
+use Rattle.osm_graph.proofs.PortLemmas.{IsPortOf, HasPort, names_at, ports-in_order, ports-known, ports-have}
 use Rattle.osm_graph.proofs.StoreLemmas.{CanHold, few-outputs, ports-hold}
 use Rattle.osm_graph.proofs.TaskLemmas.{few-tasks}
-use Rattle.osm_graph.proofs.ReaderLemmas.{OtherPlace, OtherInput, HasOutput, HasReader, reader_at, readers-Every, readers-other_place, readers-other_input, readers-have_outputs, inputs-read, slice_get-Every}
+use Rattle.osm_graph.proofs.ReaderLemmas.{HasOutput, HasReader, reader_at, readers-Every, readers-other_place, readers-other_input, readers-have_outputs, inputs-read, slice_get-Every}
 
 -- the pipes of a command that has them: no port has a fault, and each output is read
 pub record AreJoined (tasks : List TaskValue) (pipes : List Pipe) : Type 0 where

@@ -1,8 +1,7 @@
 -- An input's pipe: where its output stands, and that no two inputs take the pipe of one output.
-use Rattle.std.proofs.Common.{◌≡◌, ◌<◌, ◌≤◌, ◌+◌, ◌-◌, ◌⊎◌, ℕ, zero, suc, Bool, true, false, cond, List, ◌∷◌, [], ◌++◌, length, get_or, drop, Option, None, Some, refl, sym, ap, inl, inr, ◌∙◌, arith, eq-eqb}
-use Rattle.std.specs.Prelude.{count_by, position, slice_get, is_none, not, ◌&&◌, ◌||◌, ◌==◌, if◌then◌else◌}
+use Rattle.std.proofs.Common.{◌≡◌, ◌<◌, ◌≤◌, ◌+◌, ◌⊎◌, ℕ, zero, suc, Bool, true, false, cond, List, ◌∷◌, [], ◌++◌, length, get_or, drop, Option, None, Some, refl, sym, ap, inl, inr, ◌∙◌, arith, eq-eqb}
+use Rattle.std.specs.Prelude.{count_by, slice_get, is_none, not, ◌&&◌, if◌then◌else◌}
 use Rattle.std.specs.List.{list_any}
-use Rattle.std.specs.Str.{bytes_eq}
 use Rattle.std.proofs.lemmas.Bool.{and_from, and_parts, or_right, cases_lt, eqb-true}
 use Rattle.std.proofs.lemmas.List.{drop-append-le, drop-drop, drop_at, length-append}
 use Rattle.std.proofs.lemmas.List.Quantifiers.{position-Some}

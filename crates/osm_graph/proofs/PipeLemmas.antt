@@ -1,14 +1,14 @@
 -- The pipes between ports and their readers: each has its output and its input, and each port has one.
-use Rattle.std.proofs.Common.{◌≡◌, ◌<◌, ◌≤◌, ◌+◌, ◌⊎◌, ℕ, zero, suc, Bool, true, false, List, ◌∷◌, [], ◌++◌, length, Option, None, Some, Result, Ok, Err, cond, refl, sym, ap, subst, inl, inr, ◌∙◌, arith}
-use Rattle.std.specs.Prelude.{slice_get, find, count_by, ◌==◌, if◌then◌else◌}
-use Rattle.std.proofs.lemmas.Bool.{cases_Bool, eqb-true, eq-eqb}
+use Rattle.std.proofs.Common.{◌≡◌, ◌<◌, ◌+◌, ◌⊎◌, ℕ, zero, suc, true, false, List, ◌∷◌, [], length, Option, None, Some, Result, Ok, Err, cond, refl, sym, ap, subst, inl, inr, ◌∙◌, arith}
+use Rattle.std.specs.Prelude.{slice_get, find, count_by, ◌==◌}
+use Rattle.std.proofs.lemmas.Bool.{cases_Bool, eqb-true}
 use Rattle.osm_graph.specs.Joining.{pipe_between, joined_pipe, pipes_from}
 use Rattle.osm_graph.specs.Ports.{PortValue}
 use Rattle.osm_graph.specs.declared.fault.GraphError.{GraphError}
 use Rattle.osm_graph.specs.declared.fault.GraphError.TheVariants.{UnusedPipes}
 use Rattle.osm_graph.specs.declared.joining.Reader.{Reader}
 use Rattle.osm_graph.specs.declared.pipe.Pipe.{Pipe}
-use Rattle.osm_graph.proofs.ListLemmas.{Every, EachTwo, Among, Every-then, EachTwo-among, find-among}
+use Rattle.osm_graph.proofs.ListLemmas.{Every, EachTwo, Among, EachTwo-among, find-among}
 use Rattle.osm_graph.proofs.MatchLemmas.{count_by-cons}
 use Rattle.osm_graph.proofs.PortLemmas.{ComesBefore, side_of}
 use Rattle.osm_graph.proofs.ReaderLemmas.{OtherPlace, OtherInput, slice_get-Every}

@@ -1,10 +1,9 @@
 -- The ports of a command come in order, each once, and each port of each task is among them.
-use Rattle.std.proofs.Common.{◌≡◌, ◌<◌, ◌≤◌, ◌+◌, ◌⊎◌, ℕ, zero, suc, Bool, true, false, List, ◌∷◌, [], ◌++◌, length, get_or, Option, None, Some, refl, sym, ap, inl, inr, ◌∙◌, arith}
-use Rattle.std.specs.Prelude.{⊤}
+use Rattle.std.proofs.Common.{◌≡◌, ◌<◌, ◌≤◌, ◌+◌, ℕ, zero, suc, Bool, true, false, List, ◌∷◌, [], ◌++◌, length, get_or, Option, refl, inl, inr, ◌∙◌, arith}
 use Rattle.osm_tasks.specs.Tasks.{TaskValue}
 use Rattle.osm_tasks.specs.declared.kind.TaskKind.{TaskKind}
 use Rattle.osm_graph.specs.Graphs.{no_task}
-use Rattle.osm_graph.specs.Ports.{PortValue, side_ports, ports_of_task, ports_from, ports_of}
+use Rattle.osm_graph.specs.Ports.{PortValue, side_ports, ports_of_task, ports_from}
 use Rattle.osm_graph.proofs.ListLemmas.{Every, EachTwo, Among, Every-append, Every-then, EachTwo-append, Among-left, Among-right}
 
 -- the place of a side of a task among all sides: inputs before outputs

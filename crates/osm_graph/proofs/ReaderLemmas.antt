@@ -1,10 +1,10 @@
 -- The readers of a command without a fault: each takes the pipe of an earlier output, no two that of one output, and
 -- each input is one.
-use Rattle.std.proofs.Common.{◌≡◌, ◌<◌, ◌≤◌, ◌+◌, ◌⊎◌, ℕ, zero, suc, Bool, true, false, List, ◌∷◌, [], ◌++◌, Option, None, Some, refl, sym, ap, inl, inr, ◌∙◌, append_assoc, arith}
-use Rattle.std.specs.Prelude.{slice_get, if◌then◌else◌}
+use Rattle.std.proofs.Common.{◌≡◌, ◌<◌, ◌⊎◌, ℕ, zero, suc, Bool, true, false, List, ◌∷◌, [], ◌++◌, Option, None, Some, refl, sym, ap, inl, inr, ◌∙◌, append_assoc, arith}
+use Rattle.std.specs.Prelude.{slice_get}
 use Rattle.std.specs.Option.{option_or}
 use Rattle.std.proofs.lemmas.Bool.{cases_Bool}
-use Rattle.osm_graph.specs.Joining.{has_flow, is_taken, no_source, input_fault, output_fault, port_fault, ports_fault, reader_from, reader_of, readers_of}
+use Rattle.osm_graph.specs.Joining.{is_taken, no_source, input_fault, output_fault, port_fault, ports_fault, readers_of}
 use Rattle.osm_graph.specs.Matching.{source_place}
 use Rattle.osm_graph.specs.Ports.{PortValue}
 use Rattle.osm_graph.specs.declared.fault.GraphError.{GraphError}

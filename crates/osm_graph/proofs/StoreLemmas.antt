@@ -1,5 +1,5 @@
 -- The pipes of a command are at most 128, and each can hold a message.
-use Rattle.std.proofs.Common.{◌≡◌, ◌<◌, ◌≤◌, ◌+◌, ◌⊎◌, ℕ, Bool, true, false, cond, List, ◌∷◌, [], ◌++◌, length, Option, None, Some, refl, sym, ap, inl, inr, ◌∙◌, append_assoc, append-nil, arith}
+use Rattle.std.proofs.Common.{◌≡◌, ◌<◌, ◌≤◌, ◌+◌, ◌⊎◌, ℕ, Bool, true, false, cond, List, ◌∷◌, [], ◌++◌, Option, None, Some, refl, sym, inl, inr, ◌∙◌, append_assoc, append-nil, arith}
 use Rattle.std.specs.Prelude.{count_by, nat_le, if◌then◌else◌}
 use Rattle.std.proofs.lemmas.Bool.{cases_Bool, leb-false}
 use Rattle.std.proofs.lemmas.List.Sums.{sum_by-append}
@@ -10,7 +10,6 @@ use Rattle.osm_tasks.specs.declared.kind.TaskKind.TheVariants.{Buffer, Spool}
 use Rattle.osm_graph.specs.Graphs.{most_pipes, holds_messages}
 use Rattle.osm_graph.specs.Joining.{is_put, output_fault, port_fault, ports_fault}
 use Rattle.osm_graph.specs.Ports.{PortValue, store_before, side_ports, ports_of_task, ports_from}
-use Rattle.osm_graph.specs.declared.fault.GraphError.{GraphError}
 use Rattle.osm_graph.specs.declared.fault.GraphError.TheVariants.{TooManyPipes, PipeTwice}
 use Rattle.osm_graph.proofs.ListLemmas.{Every, Every-append}
 use Rattle.osm_graph.proofs.ReaderLemmas.{neither, no_fault, gives-fault}

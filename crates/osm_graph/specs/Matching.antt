@@ -1,7 +1,7 @@
 -- Which output's pipe an input takes: the one of its name, or, without a name, the one that matches as brackets do.
 -- Here an output without a name is an opening mark and an input without a name a closing mark, and marks are counted
 -- between two places; the code goes back from an input with two counts.
-use Rattle.std.specs.Prelude.{ℕ, zero, suc, ◌==◌, List, [], ◌∷◌, length, drop, Bool, true, false, ◌&&◌, not, if◌then◌else◌, Option, Some, None, is_none, count_by, position}
+use Rattle.std.specs.Prelude.{ℕ, zero, suc, ◌==◌, List, [], ◌∷◌, length, drop, Bool, false, ◌&&◌, not, if◌then◌else◌, Option, Some, None, is_none, count_by, position}
 use Rattle.std.specs.Str.{bytes_eq}
 use Rattle.osm_graph.specs.Ports.{PortValue}
 

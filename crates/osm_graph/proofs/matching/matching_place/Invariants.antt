@@ -1,4 +1,4 @@
-use Rattle.std.proofs.Common.{◌≡◌, drop, length}
+use Rattle.std.proofs.Common.{◌≡◌, drop}
 use Rattle.std.specs.Prelude.{count_by}
 use Rattle.osm_graph.specs.Matching.{is_closing, is_opening, is_still_open, latest, matching_place}
 use Rattle.osm_graph.proofs.matching.matching_place.Given as goal
