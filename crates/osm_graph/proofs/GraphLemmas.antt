@@ -7,7 +7,7 @@ use Rattle.osm_graph.specs.Files.{file_fault}
 use Rattle.osm_graph.specs.Graphs.{no_task, count_inputs, count_outputs, most_pipes, holds_messages, IsGraph}
 use Rattle.osm_graph.specs.Joining.{pipe_between, ports_fault, readers_of, pipes_from, unless_fault, joined_ports}
 use Rattle.osm_graph.specs.Pipes.{no_pipe, pipe_of, pipe_into, pipe_out, IsWholeGraph}
-use Rattle.osm_graph.specs.Ports.{PortValue, ports_of}
+use Rattle.osm_graph.specs.Ports.{PortValue, ports_of, flow_at}
 use Rattle.osm_graph.specs.declared.fault.GraphError.{GraphError}
 use Rattle.osm_graph.specs.declared.joining.Reader.{Reader}
 use Rattle.osm_graph.specs.declared.pipe.Pipe.{Pipe}
@@ -35,6 +35,8 @@ record IsBetween (tasks : List TaskValue) (pipe : Pipe) : Type 0 where
   pub known : pipe.to < length tasks
   pub from_port : pipe.from_port < count_outputs tasks pipe.from
   pub to_port : pipe.to_port < count_inputs tasks pipe.to
+  pub given : pipe.flow ≡ flow_at (get_or tasks pipe.from no_task).kind true pipe.from_port
+  pub taken : pipe.flow ≡ flow_at (get_or tasks pipe.to no_task).kind false pipe.to_port
 
 input-of : (tasks : List TaskValue) (p : PortValue) → IsPortOf 0 tasks p → (o : ℕ) → p.gives ≡ false →
     IsInputOf tasks (reader_at p o)
@@ -42,7 +44,8 @@ input-of tasks p is o takes =
     let same : p.task ≡ is.at = is.task ∙ omega arith in
     record {
       task = omega (arith, same, is.known);
-      port = rw same (let at : p.port < length (names_at (get_or tasks is.at no_task) false) = rw (sym takes) is.port in at);
+      port = rw same
+          (let there : p.port < length (names_at (get_or tasks is.at no_task) false) = rw (sym takes) is.port in there);
     }
 
 readers-known : (tasks : List TaskValue) → ports_fault [] (ports_of tasks) ≡ None →
@@ -70,23 +73,32 @@ between tasks pipes are =
         (readers-have_outputs [] (ports_of tasks) are.fine (ports-in_order 0 tasks)) among in
         let input : IsInputOf tasks r =
         Every-among (IsInputOf tasks) (readers_of [] (ports_of tasks)) r (readers-known tasks are.fine) among in
-        let is : IsPortOf 0 tasks p = slice_get-Every (IsPortOf 0 tasks) (ports_of tasks) k p at (ports-known 0 tasks) in
+        let is : IsPortOf 0 tasks p =
+        slice_get-Every (IsPortOf 0 tasks) (ports_of tasks) k p at (ports-known 0 tasks) in
+        let other : IsPortOf 0 tasks output.input =
+        Every-among (IsPortOf 0 tasks) (ports_of tasks) output.input (ports-known 0 tasks) output.among in
         let place_is : r.place ≡ k = place ∙ omega arith in
         let same : output.port ≡ p =
         (let e : Some output.port ≡ Some p = sym output.at ∙ ap (slice_get (ports_of tasks)) place_is ∙ at in
         grind arith) in
         let task : p.task ≡ is.at = is.task ∙ omega arith in
+        let other_task : r.task ≡ other.at = sym output.input_task ∙ other.task ∙ omega arith in
         record {
           forward = rw (sym same) output.before;
           known = input.task;
-          from_port = rw task (let there : p.port < length (names_at (get_or tasks is.at no_task) true) = rw (sym gives) is.port in there);
+          from_port = rw task
+              (let there : p.port < length (names_at (get_or tasks is.at no_task) true) = rw (sym gives) is.port in
+              there);
           to_port = input.port;
+          given = is.flow ∙ ap (λ side. flow_at (get_or tasks is.at no_task).kind side p.port) gives
+              ∙ ap (λ t. flow_at (get_or tasks t no_task).kind true p.port) (sym task);
+          taken = ap (λ q. q.flow) (sym same) ∙ output.flow ∙ other.flow
+              ∙ ap (λ side. flow_at (get_or tasks other.at no_task).kind side output.input.port) output.takes
+              ∙ ap (λ t. flow_at (get_or tasks t no_task).kind false output.input.port) (sym other_task)
+              ∙ ap (λ n. flow_at (get_or tasks r.task no_task).kind false n) output.input_port;
         }
 
--- tests of the two ends of a pipe
-is_from : ℕ → ℕ → Pipe → Bool
-is_from task port pipe = (pipe.from == task) && (pipe.from_port == port)
-
+-- the test of an end of a pipe fails at another
 differ-test : (a b m n : ℕ) → (a ≡ m → b ≡ n → ⊥) → ((a == m) && (b == n)) ≡ false
 differ-test a b m n never = by_cases (cases_eq a m) (cases_eq b n)
   where
@@ -186,6 +198,7 @@ pub joined-IsGraph : (tasks : List TaskValue) (pipes : List Pipe) → AreJoined 
 joined-IsGraph tasks pipes are files kept =
     let whole : IsWholeGraph (length tasks) (count_inputs tasks) (count_outputs tasks) pipes =
     joined-whole tasks pipes are in
+    let all : Every (IsBetween tasks) pipes = between tasks pipes are in
     let few : length pipes ≤ most_pipes =
     omega (
       arith,
@@ -198,6 +211,8 @@ joined-IsGraph tasks pipes are files kept =
       few_tasks = omega (arith, few, few-tasks tasks pipes whole kept);
       stored = λ p below. Every-get_or (λ pipe. holds_messages pipe.store ≡ true) pipes p no_pipe below
           (pipes-hold tasks pipes are kept);
+      given = λ p below. (Every-get_or (IsBetween tasks) pipes p no_pipe below all).given;
+      taken = λ p below. (Every-get_or (IsBetween tasks) pipes p no_pipe below all).taken;
       apart = files-apart tasks files;
     }
 

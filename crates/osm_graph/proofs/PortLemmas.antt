@@ -3,7 +3,7 @@ use Rattle.std.proofs.Common.{◌≡◌, ◌<◌, ◌≤◌, ◌+◌, ℕ, zero,
 use Rattle.osm_tasks.specs.Tasks.{TaskValue}
 use Rattle.osm_tasks.specs.declared.kind.TaskKind.{TaskKind}
 use Rattle.osm_graph.specs.Graphs.{no_task}
-use Rattle.osm_graph.specs.Ports.{PortValue, side_ports, ports_of_task, ports_from}
+use Rattle.osm_graph.specs.Ports.{PortValue, flow_at, side_ports, ports_of_task, ports_from}
 use Rattle.osm_graph.proofs.ListLemmas.{Every, EachTwo, Among, Every-append, Every-then, EachTwo-append, Among-left, Among-right}
 
 -- the place of a side of a task among all sides: inputs before outputs
@@ -22,20 +22,27 @@ names_at task true = task.outputs
 names_at task false = task.inputs
 
 -- what ports of one side have: the task, the side, the kind, and numbers from the first on
-pub record IsNumbered (t : ℕ) (side : Bool) (least most : ℕ) (p : PortValue) : Type 0 where
+pub record IsNumbered (kind : TaskKind) (t : ℕ) (side : Bool) (least most : ℕ) (p : PortValue) : Type 0 where
   pub task : p.task ≡ t
   pub gives : p.gives ≡ side
+  pub flow : p.flow ≡ flow_at kind p.gives p.port
   pub low : least ≤ p.port
   pub high : p.port < most
 
 side-numbered : (task : ℕ) (kind : TaskKind) (gives : Bool) (port : ℕ) (names : List (Option (List ℕ))) →
-    Every (IsNumbered task gives port (port + length names)) (side_ports task kind gives port names)
+    Every (IsNumbered kind task gives port (port + length names)) (side_ports task kind gives port names)
 side-numbered task kind gives port [] = tt
 side-numbered task kind gives port (name ∷ names) = (
-  record { task = refl; gives = refl; low = omega arith; high = omega arith },
-  Every-then (IsNumbered task gives (port + 1) (port + 1 + length names))
-      (IsNumbered task gives port (port + suc (length names)))
-      (λ p has. record { task = has.task; gives = has.gives; low = omega (arith, has.low); high = omega (arith, has.high) })
+  record { task = refl; gives = refl; flow = refl; low = omega arith; high = omega arith },
+  Every-then (IsNumbered kind task gives (port + 1) (port + 1 + length names))
+      (IsNumbered kind task gives port (port + suc (length names)))
+      (λ p has. record {
+        task = has.task;
+        gives = has.gives;
+        flow = has.flow;
+        low = omega (arith, has.low);
+        high = omega (arith, has.high);
+      })
       (side_ports task kind gives (port + 1) names) (side-numbered task kind gives (port + 1) names),
 )
 
@@ -43,7 +50,7 @@ side-in_order : (task : ℕ) (kind : TaskKind) (gives : Bool) (port : ℕ) (name
     EachTwo ComesBefore (side_ports task kind gives port names)
 side-in_order task kind gives port [] = tt
 side-in_order task kind gives port (name ∷ names) = (
-  Every-then (IsNumbered task gives (port + 1) (port + 1 + length names)) _
+  Every-then (IsNumbered kind task gives (port + 1) (port + 1 + length names)) _
       (λ p has. record {
         side = rw (has.task, has.gives) (omega arith);
         number = λ same. omega (arith, has.low);
@@ -56,18 +63,19 @@ side-in_order task kind gives port (name ∷ names) = (
 record IsFrom (n : ℕ) (p : PortValue) : Type 0 where
   pub side : n + n ≤ side_of p.task p.gives
 
-numbered-from : (n : ℕ) (gives : Bool) (low high : ℕ) (p : PortValue) → IsNumbered n gives low high p → IsFrom n p
-numbered-from n true low high p has = record { side = rw (has.task, has.gives) (omega arith) }
-numbered-from n false low high p has = record { side = rw (has.task, has.gives) (omega arith) }
+numbered-from : (kind : TaskKind) (n : ℕ) (gives : Bool) (low high : ℕ) (p : PortValue) →
+    IsNumbered kind n gives low high p → IsFrom n p
+numbered-from kind n true low high p has = record { side = rw (has.task, has.gives) (omega arith) }
+numbered-from kind n false low high p has = record { side = rw (has.task, has.gives) (omega arith) }
 
 ports-from : (n : ℕ) (tasks : List TaskValue) → Every (IsFrom n) (ports_from n tasks)
 ports-from n [] = tt
 ports-from n (task ∷ tasks) =
     Every-append (IsFrom n) (ports_of_task n task) (ports_from (n + 1) tasks)
     (Every-append (IsFrom n) (side_ports n task.kind false 0 task.inputs) (side_ports n task.kind true 0 task.outputs)
-    (Every-then (IsNumbered n false 0 (0 + length task.inputs)) (IsFrom n) (numbered-from n false 0 _)
+    (Every-then (IsNumbered task.kind n false 0 (0 + length task.inputs)) (IsFrom n) (numbered-from task.kind n false 0 _)
     (side_ports n task.kind false 0 task.inputs) (side-numbered n task.kind false 0 task.inputs))
-    (Every-then (IsNumbered n true 0 (0 + length task.outputs)) (IsFrom n) (numbered-from n true 0 _)
+    (Every-then (IsNumbered task.kind n true 0 (0 + length task.outputs)) (IsFrom n) (numbered-from task.kind n true 0 _)
     (side_ports n task.kind true 0 task.outputs) (side-numbered n task.kind true 0 task.outputs)))
     (Every-then (IsFrom (n + 1)) (IsFrom n) (λ p has. record { side = omega (arith, has.side) })
     (ports_from (n + 1) tasks) (ports-from (n + 1) tasks))
@@ -86,13 +94,13 @@ all_before side earlier later low high =
     Every-then (λ p. side_of p.task p.gives < side) (λ a. Every (ComesBefore a) later)
     (λ a less. before_later a side later less high) earlier low
 
-side_low : (n : ℕ) (gives : Bool) (side low high : ℕ) (p : PortValue) → side_of n gives < side →
-    IsNumbered n gives low high p → side_of p.task p.gives < side
-side_low n gives side low high p less has = rw (has.task, has.gives) less
+side_low : (kind : TaskKind) (n : ℕ) (gives : Bool) (side low high : ℕ) (p : PortValue) → side_of n gives < side →
+    IsNumbered kind n gives low high p → side_of p.task p.gives < side
+side_low kind n gives side low high p less has = rw (has.task, has.gives) less
 
-side_high : (n : ℕ) (gives : Bool) (low high : ℕ) (p : PortValue) →
-    IsNumbered n gives low high p → side_of n gives ≤ side_of p.task p.gives
-side_high n gives low high p has = rw (has.task, has.gives) (omega arith)
+side_high : (kind : TaskKind) (n : ℕ) (gives : Bool) (low high : ℕ) (p : PortValue) →
+    IsNumbered kind n gives low high p → side_of n gives ≤ side_of p.task p.gives
+side_high kind n gives low high p has = rw (has.task, has.gives) (omega arith)
 
 -- the ports of a task come in order
 task-in_order : (n : ℕ) (task : TaskValue) → EachTwo ComesBefore (ports_of_task n task)
@@ -102,22 +110,22 @@ task-in_order n task =
     EachTwo-append ComesBefore inputs outputs (side-in_order n task.kind false 0 task.inputs)
     (side-in_order n task.kind true 0 task.outputs)
     (all_before (n + n + 1) inputs outputs
-    (Every-then (IsNumbered n false 0 (0 + length task.inputs)) (λ p. side_of p.task p.gives < n + n + 1)
-    (λ p has. side_low n false (n + n + 1) 0 _ p (omega arith) has) inputs
+    (Every-then (IsNumbered task.kind n false 0 (0 + length task.inputs)) (λ p. side_of p.task p.gives < n + n + 1)
+    (λ p has. side_low task.kind n false (n + n + 1) 0 _ p (omega arith) has) inputs
     (side-numbered n task.kind false 0 task.inputs))
-    (Every-then (IsNumbered n true 0 (0 + length task.outputs)) (λ p. n + n + 1 ≤ side_of p.task p.gives)
-    (λ p has. side_high n true 0 _ p has) outputs (side-numbered n task.kind true 0 task.outputs)))
+    (Every-then (IsNumbered task.kind n true 0 (0 + length task.outputs)) (λ p. n + n + 1 ≤ side_of p.task p.gives)
+    (λ p has. side_high task.kind n true 0 _ p has) outputs (side-numbered n task.kind true 0 task.outputs)))
 
 task-below : (n : ℕ) (task : TaskValue) →
     Every (λ p. side_of p.task p.gives < n + 1 + (n + 1)) (ports_of_task n task)
 task-below n task =
     let below : PortValue → Type 0 = λ p. side_of p.task p.gives < n + 1 + (n + 1) in
     Every-append below (side_ports n task.kind false 0 task.inputs) (side_ports n task.kind true 0 task.outputs)
-    (Every-then (IsNumbered n false 0 (0 + length task.inputs)) below
-    (λ p has. side_low n false (n + 1 + (n + 1)) 0 _ p (omega arith) has)
+    (Every-then (IsNumbered task.kind n false 0 (0 + length task.inputs)) below
+    (λ p has. side_low task.kind n false (n + 1 + (n + 1)) 0 _ p (omega arith) has)
     (side_ports n task.kind false 0 task.inputs) (side-numbered n task.kind false 0 task.inputs))
-    (Every-then (IsNumbered n true 0 (0 + length task.outputs)) below
-    (λ p has. side_low n true (n + 1 + (n + 1)) 0 _ p (omega arith) has)
+    (Every-then (IsNumbered task.kind n true 0 (0 + length task.outputs)) below
+    (λ p has. side_low task.kind n true (n + 1 + (n + 1)) 0 _ p (omega arith) has)
     (side_ports n task.kind true 0 task.outputs) (side-numbered n task.kind true 0 task.outputs))
 
 -- the ports of tasks come in order
@@ -136,14 +144,16 @@ pub record IsPortOf (n : ℕ) (tasks : List TaskValue) (p : PortValue) : Type 0 
   pub task : p.task ≡ n + at
   pub known : at < length tasks
   pub port : p.port < length (names_at (get_or tasks at no_task) p.gives)
+  pub flow : p.flow ≡ flow_at (get_or tasks at no_task).kind p.gives p.port
 
 numbered-first : (n : ℕ) (task : TaskValue) (tasks : List TaskValue) (gives : Bool) (p : PortValue) →
-    IsNumbered n gives 0 (0 + length (names_at task gives)) p → IsPortOf n (task ∷ tasks) p
+    IsNumbered task.kind n gives 0 (0 + length (names_at task gives)) p → IsPortOf n (task ∷ tasks) p
 numbered-first n task tasks gives p has = record {
   at = 0;
   task = has.task ∙ omega arith;
   known = omega arith;
   port = rw has.gives (omega (arith, has.high));
+  flow = has.flow;
 }
 
 -- each port of tasks is one of them
@@ -153,12 +163,18 @@ ports-known n (task ∷ tasks) =
     let known : PortValue → Type 0 = IsPortOf n (task ∷ tasks) in
     Every-append known (ports_of_task n task) (ports_from (n + 1) tasks)
     (Every-append known (side_ports n task.kind false 0 task.inputs) (side_ports n task.kind true 0 task.outputs)
-    (Every-then (IsNumbered n false 0 (0 + length task.inputs)) known (numbered-first n task tasks false)
+    (Every-then (IsNumbered task.kind n false 0 (0 + length task.inputs)) known (numbered-first n task tasks false)
     (side_ports n task.kind false 0 task.inputs) (side-numbered n task.kind false 0 task.inputs))
-    (Every-then (IsNumbered n true 0 (0 + length task.outputs)) known (numbered-first n task tasks true)
+    (Every-then (IsNumbered task.kind n true 0 (0 + length task.outputs)) known (numbered-first n task tasks true)
     (side_ports n task.kind true 0 task.outputs) (side-numbered n task.kind true 0 task.outputs)))
     (Every-then (IsPortOf (n + 1) tasks) known
-    (λ p has. record { at = suc has.at; task = has.task ∙ omega arith; known = omega (arith, has.known); port = has.port })
+    (λ p has. record {
+      at = suc has.at;
+      task = has.task ∙ omega arith;
+      known = omega (arith, has.known);
+      port = has.port;
+      flow = has.flow;
+    })
     (ports_from (n + 1) tasks) (ports-known (n + 1) tasks))
 
 -- a port with this task, side and number is in a list
@@ -211,12 +227,24 @@ task-has n task true k below =
     has-right (side_ports n task.kind false 0 task.inputs) (side_ports n task.kind true 0 task.outputs) n true k
     (let there : HasPort (side_ports n task.kind true 0 task.outputs) n true (0 + k) =
     side-has n task.kind true 0 k task.outputs below in
-    record { p = there.p; among = there.among; task = there.task; gives = there.gives; number = there.number ∙ omega arith })
+    record {
+      p = there.p;
+      among = there.among;
+      task = there.task;
+      gives = there.gives;
+      number = there.number ∙ omega arith;
+    })
 task-has n task false k below =
     has-left (side_ports n task.kind false 0 task.inputs) (side_ports n task.kind true 0 task.outputs) n false k
     (let there : HasPort (side_ports n task.kind false 0 task.inputs) n false (0 + k) =
     side-has n task.kind false 0 k task.inputs below in
-    record { p = there.p; among = there.among; task = there.task; gives = there.gives; number = there.number ∙ omega arith })
+    record {
+      p = there.p;
+      among = there.among;
+      task = there.task;
+      gives = there.gives;
+      number = there.number ∙ omega arith;
+    })
 
 -- each port of each task is among the ports
 pub ports-have : (n : ℕ) (tasks : List TaskValue) (t : ℕ) (gives : Bool) (k : ℕ) → t < length tasks →

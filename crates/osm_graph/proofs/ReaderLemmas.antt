@@ -1,14 +1,16 @@
 -- The readers of a command without a fault: each takes the pipe of an earlier output, no two that of one output, and
 -- each input is one.
 use Rattle.std.proofs.Common.{◌≡◌, ◌<◌, ◌⊎◌, ℕ, zero, suc, Bool, true, false, List, ◌∷◌, [], ◌++◌, Option, None, Some, refl, sym, ap, inl, inr, ◌∙◌, append_assoc, arith}
-use Rattle.std.specs.Prelude.{slice_get}
+use Rattle.std.specs.Prelude.{if◌then◌else◌, slice_get}
 use Rattle.std.specs.Option.{option_or}
 use Rattle.std.proofs.lemmas.Bool.{cases_Bool}
-use Rattle.osm_graph.specs.Joining.{is_taken, no_source, input_fault, output_fault, port_fault, ports_fault, readers_of}
+use Rattle.osm_entity.specs.declared.kind.Flow.{Flow}
+use Rattle.osm_entity.specs.declared.kind.Flow.TheVariants.{Entities, Changes}
+use Rattle.osm_graph.specs.Joining.{is_same_flow, has_flow, is_taken, no_source, input_fault, output_fault, port_fault, ports_fault, readers_of}
 use Rattle.osm_graph.specs.Matching.{source_place}
 use Rattle.osm_graph.specs.Ports.{PortValue}
 use Rattle.osm_graph.specs.declared.fault.GraphError.{GraphError}
-use Rattle.osm_graph.specs.declared.fault.GraphError.TheVariants.{PipeTaken}
+use Rattle.osm_graph.specs.declared.fault.GraphError.TheVariants.{PipeTaken, WrongType}
 use Rattle.osm_graph.specs.declared.joining.Reader.{Reader}
 use Rattle.osm_graph.proofs.ListLemmas.{Every, EachTwo, Among, Among-right, Every-then, Every-among}
 use Rattle.osm_graph.proofs.MatchLemmas.{IsSource, source-is, source-alone, slice_get-append}
@@ -31,6 +33,7 @@ pub record IsJoined (earlier : List PortValue) (port : PortValue) : Type 0 where
   pub place : ℕ
   pub source : source_place earlier port.name ≡ Some place
   pub free : is_taken earlier port.name ≡ false
+  pub same : has_flow port.flow (slice_get earlier place) ≡ true
 
 -- the fault of a port, by its side
 pub takes-fault : (earlier : List PortValue) (port : PortValue) → port.gives ≡ false →
@@ -45,6 +48,27 @@ taken-fault : (earlier : List PortValue) (port : PortValue) (o : ℕ) → is_tak
     input_fault earlier port (Some o) ≡ Some (PipeTaken port.task port.port)
 taken-fault earlier port o taken = rw taken refl
 
+free-fault : (earlier : List PortValue) (port : PortValue) (o : ℕ) → is_taken earlier port.name ≡ false →
+    input_fault earlier port (Some o)
+    ≡ (if has_flow port.flow (slice_get earlier o) then None else Some (WrongType port.task port.port))
+free-fault earlier port o free = rw free refl
+
+-- without a fault the two streams are of one type
+flow-same : (earlier : List PortValue) (port : PortValue) (o : ℕ) →
+    (if has_flow port.flow (slice_get earlier o) then None else Some (WrongType port.task port.port)) ≡ None →
+    has_flow port.flow (slice_get earlier o) ≡ true
+flow-same earlier port o fine = by_test (has_flow port.flow (slice_get earlier o)) fine
+  where
+    by_test : (b : Bool) → (if b then None else Some (WrongType port.task port.port)) ≡ None → b ≡ true
+    by_test true fine = refl
+    by_test false fine = absurd (no_fault (WrongType port.task port.port) fine)
+
+same_flow : (one other : Flow) → is_same_flow one other ≡ true → one ≡ other
+same_flow Entities Entities same = refl
+same_flow Changes Changes same = refl
+same_flow Entities Changes same = absurd (let never : false ≡ true = same in cc)
+same_flow Changes Entities same = absurd (let never : false ≡ true = same in cc)
+
 pub input-joined : (earlier : List PortValue) (port : PortValue) → port.gives ≡ false →
     port_fault earlier port ≡ None → IsJoined earlier port
 input-joined earlier port takes fine =
@@ -54,7 +78,13 @@ input-joined earlier port takes fine =
         input_fault earlier port (Some o) ≡ None → IsJoined earlier port
     by_free o is true taken fine =
         absurd (no_fault (PipeTaken port.task port.port) (sym (taken-fault earlier port o taken) ∙ fine))
-    by_free o is false free fine = record { place = o; source = is; free = free }
+    by_free o is false free fine =
+        record {
+          place = o;
+          source = is;
+          free = free;
+          same = flow-same earlier port o (sym (free-fault earlier port o free) ∙ fine);
+        }
 
     by_source : (source : Option ℕ) → source_place earlier port.name ≡ source →
         input_fault earlier port source ≡ None → IsJoined earlier port
@@ -181,7 +211,8 @@ readers-other_input earlier (port ∷ ports) fine order =
         EachTwo-same OtherInput _ (reader_at port joined.place ∷ readers_of (earlier ++ port ∷ []) ports)
         (takes-reader earlier port ports takes joined) (
           readers-Every (OtherInput (reader_at port joined.place)) (earlier ++ port ∷ []) ports faults.1
-              (Every-then (ComesBefore port) (λ p. (o : ℕ) → p.gives ≡ false → OtherInput (reader_at port joined.place) (reader_at p o))
+              (Every-then (ComesBefore port)
+              (λ p. (o : ℕ) → p.gives ≡ false → OtherInput (reader_at port joined.place) (reader_at p o))
               (λ p before o takes_too. other_input p takes before o joined.place takes_too) ports order.0),
           rest,
         )
@@ -192,6 +223,12 @@ pub record HasOutput (ports : List PortValue) (r : Reader) : Type 0 where
   pub at : slice_get ports r.place ≡ Some port
   pub gives : port.gives ≡ true
   pub before : port.task < r.task
+  pub input : PortValue
+  pub among : Among ports input
+  pub takes : input.gives ≡ false
+  pub input_task : input.task ≡ r.task
+  pub input_port : input.port ≡ r.port
+  pub flow : port.flow ≡ input.flow
 
 pub slice_get-Every : (P : PortValue → Type 0) (ports : List PortValue) (o : ℕ) (port : PortValue) →
     slice_get ports o ≡ Some port → Every P ports → P port
@@ -227,6 +264,12 @@ has-output earlier ports port takes joined order =
       at = slice_get-append earlier (port ∷ ports) joined.place source.port source.at;
       gives = source.gives;
       before = omega (arith, before.side, gives, takes_it);
+      input = port;
+      among = Among-right earlier (port ∷ ports) port (inl refl);
+      takes = takes;
+      input_task = refl;
+      input_port = refl;
+      flow = same_flow source.port.flow port.flow (sym (ap (has_flow port.flow) source.at) ∙ joined.same);
     }
 
 pub readers-have_outputs : (earlier ports : List PortValue) → ports_fault earlier ports ≡ None →

@@ -148,7 +148,8 @@ files_at : (tasks : List TaskValue) (at : ℕ) (task : TaskValue) → at < lengt
     (file_fault_from (at + 1) (take (at + 1) tasks) (drop (at + 1) tasks))
 files_at tasks at task within is =
     ap (file_fault_from at (take at tasks)) (rest_at tasks at task within is)
-    ∙ ap (λ front. option_or (task_clash at task (take at tasks)) (file_fault_from (at + 1) front (drop (at + 1) tasks)))
+    ∙ ap (λ front. option_or (task_clash at task (take at tasks))
+    (file_fault_from (at + 1) front (drop (at + 1) tasks)))
     (sym (front_at tasks at task within is))
 
 -- a task has the file of an earlier one

@@ -55,7 +55,8 @@ length-listed : (f : ℕ → ℕ) (n : ℕ) → length (listed f n) ≡ n
 length-listed f zero = refl
 length-listed f (suc n) = ap suc (length-listed f n)
 
-listed-below : (f : ℕ → ℕ) (n m q : ℕ) → ((i : ℕ) → i < n → f i < m) → list_any (λ x. q == x) (listed f n) ≡ true → q < m
+listed-below : (f : ℕ → ℕ) (n m q : ℕ) → ((i : ℕ) → i < n → f i < m) →
+    list_any (λ x. q == x) (listed f n) ≡ true → q < m
 listed-below f zero m q below any = absurd (let never : false ≡ true = any in cc)
 listed-below f (suc n) m q below any =
     by_cases (or_cases _ _ any) (λ more. listed-below f n m q (λ i less. below i (omega arith)) more)

@@ -6,6 +6,7 @@ use Rattle.osm_tasks.specs.Tasks.{TaskValue}
 use Rattle.osm_tasks.specs.declared.kind.TaskKind.TheVariants.{ReadEmpty}
 use Rattle.osm_graph.specs.Files.{clashes}
 use Rattle.osm_graph.specs.Pipes.{IsWholeGraph, pipe_of}
+use Rattle.osm_graph.specs.Ports.{flow_at}
 use Rattle.osm_graph.specs.declared.pipe.Pipe.{Pipe}
 use Rattle.osm_graph.specs.declared.pipe.Store.{Store}
 use Rattle.osm_graph.specs.declared.pipe.Store.TheVariants.{Bounded, Spool}
@@ -40,12 +41,16 @@ abbrev pub holds_messages : Store → Bool
 holds_messages (Bounded capacity) = is_within 1 65536 capacity
 holds_messages Spool = true
 
--- each port of each task has exactly one pipe, pipes lead to later tasks, there are at most 128 pipes and 256 tasks, each
--- pipe can hold a message, and no task writes the file of another
+-- each port of each task has exactly one pipe, and pipes lead to later tasks; there are at most 128 pipes and 256 tasks;
+-- each pipe can hold a message, and has the stream of the output and of the input; no task writes the file of another
 pub record IsGraph (g : GraphValue) : Type 0 where
   pub whole : IsWholeGraph (length g.tasks) (count_inputs g.tasks) (count_outputs g.tasks) g.pipes
   pub few_pipes : length g.pipes ≤ most_pipes
   pub few_tasks : length g.tasks ≤ most_joined_tasks
   pub stored : (p : ℕ) → p < length g.pipes → IsTrue (holds_messages (pipe_of g.pipes p).store)
+  pub given : (p : ℕ) → p < length g.pipes → (pipe_of g.pipes p).flow
+      ≡ flow_at (get_or g.tasks (pipe_of g.pipes p).from no_task).kind true (pipe_of g.pipes p).from_port
+  pub taken : (p : ℕ) → p < length g.pipes → (pipe_of g.pipes p).flow
+      ≡ flow_at (get_or g.tasks (pipe_of g.pipes p).to no_task).kind false (pipe_of g.pipes p).to_port
   pub apart : (i j : ℕ) → i < j → j < length g.tasks →
       clashes (get_or g.tasks i no_task).kind (get_or g.tasks j no_task).kind ≡ false

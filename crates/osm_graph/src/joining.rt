@@ -119,7 +119,8 @@ fn has_flow(flow: Flow, port: Option<&Port>) -> bool
 
 // The input as the reader of its pipe, or why it has none.
 fn join_input(earlier: &[Port], port: &Port) -> Result<Reader, GraphError>
-    ensures reader { IfOk result (λ reader. ◌∷◌ reader [] ≡ reader_from port.now (source_place earlier.now port.now.name)) }
+    ensures reader { IfOk result (λ reader.
+        reader ∷ [] ≡ reader_from port.now (source_place earlier.now port.now.name)) }
     ensures refused { result_err result ≡ input_fault earlier.now port.now (source_place earlier.now port.now.name) }
 {
     let task = port.task;
