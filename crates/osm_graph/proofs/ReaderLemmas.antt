@@ -1,5 +1,4 @@
--- The readers of a command without a fault: each takes the pipe of an earlier output, no two that of one output, and
--- each input is one.
+-- Each reader takes the pipe of an earlier output, no two that of one output, and each input is one.
 use Rattle.std.proofs.Common.{◌≡◌, ◌<◌, ◌⊎◌, ℕ, zero, suc, Bool, true, false, List, ◌∷◌, [], ◌++◌, Option, None, Some, refl, sym, ap, inl, inr, ◌∙◌, append_assoc, arith}
 use Rattle.std.specs.Prelude.{if◌then◌else◌, slice_get}
 use Rattle.std.specs.Option.{option_or}
