@@ -54,7 +54,7 @@ output_fault earlier port =
     if nat_le most_pipes (count_by (λ p. p.gives) earlier) then Some (TooManyPipes port.task port.port)
     else if is_put earlier port.name then Some (PipeTwice port.task port.port) else None
 
--- what is wrong with a port after the earlier ports
+-- what is wrong with a port after the earlier ports, by its side
 abbrev pub port_fault : List PortValue → PortValue → Option GraphError
 port_fault earlier port =
     if port.gives then output_fault earlier port
@@ -99,7 +99,8 @@ joined_pipe number from None more = Err (UnusedPipes number)
 joined_pipe number from (Some reader) (Err fault) = Err fault
 joined_pipe number from (Some reader) (Ok pipes) = Ok (pipe_between from reader ∷ pipes)
 
--- the pipes of ports, of which the first stands at this place, and the first pipe has this number
+-- the pipes of ports, of which the first stands at this place and the first pipe has this number; the lowest that
+-- nobody reads is refused
 abbrev pub pipes_from : List Reader → (place number : ℕ) → List PortValue → Result (List Pipe) GraphError
 pipes_from readers place number [] = Ok []
 pipes_from readers place number (port ∷ ports) =
@@ -108,7 +109,7 @@ pipes_from readers place number (port ∷ ports) =
     (pipes_from readers (place + 1) (number + 1) ports)
     else pipes_from readers (place + 1) number ports
 
--- what the first fault leaves: it, where there is one
+-- these pipes, unless there is a fault
 abbrev pub unless_fault : Option GraphError → Result (List Pipe) GraphError → Result (List Pipe) GraphError
 unless_fault None pipes = pipes
 unless_fault (Some fault) pipes = Err fault
@@ -123,7 +124,7 @@ then_fault (Err fault) last = Err fault
 then_fault (Ok pipes) None = Ok pipes
 then_fault (Ok pipes) (Some fault) = Err fault
 
--- the pipes of a command, or its first refusal
+-- the pipes of a command, or its first refusal: that of its ports, and then that of its files
 abbrev pub command_pipes : List TaskValue → Result (List Pipe) GraphError
 command_pipes tasks = then_fault (joined_ports (ports_of tasks)) (file_fault tasks)
 

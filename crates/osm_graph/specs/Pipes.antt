@@ -22,7 +22,8 @@ pipe_into pipes task port = position (λ pipe. (pipe.to == task) && (pipe.to_por
 abbrev pub pipe_out : List Pipe → (task port : ℕ) → Option ℕ
 pipe_out pipes task port = position (λ pipe. (pipe.from == task) && (pipe.from_port == port)) pipes
 
--- each pipe leads to a later task, each port of each task has a pipe, and the pipe at a port is the only one there
+-- each pipe leads from an output that is there to an input that is there, of a later task; each port of each task has a
+-- pipe, and no two pipes are at one port
 pub record IsWholeGraph (tasks : ℕ) (inputs outputs : ℕ → ℕ) (pipes : List Pipe) : Type 0 where
   pub forward : (p : ℕ) → p < length pipes → (pipe_of pipes p).from < (pipe_of pipes p).to
   pub known : (p : ℕ) → p < length pipes → (pipe_of pipes p).to < tasks

@@ -32,7 +32,7 @@ abbrev pub flow_at : TaskKind → (gives : Bool) → (port : ℕ) → Flow
 flow_at kind true port = unwrap_or (task_row (task_of kind)).output Entities
 flow_at kind false port = get_or (inputs_of kind) port Entities
 
--- the ports of one side of a task with these names, of which the first has this number
+-- the ports of one side of a task, one for each of these names, of which the first has this number
 abbrev pub side_ports : (task : ℕ) → TaskKind → (gives : Bool) → (port : ℕ) → List (Option (List ℕ)) → List PortValue
 side_ports task kind gives port [] = []
 side_ports task kind gives port (name ∷ names) = record {
