@@ -1,10 +1,10 @@
-//! Runs on hosts in memory, one to a row: what `b` holds, the fault, and the entry of the reader.
+//! Runs on hosts in memory, one to a row: what `b` holds, what is said, and the entry of the reader.
 ghost use Rattle.std.specs.Prelude.{◌≡◌, ◌≢◌, ◌<◌, IfOk};
 ghost use Rattle.std.specs.List.{AllPairs};
 
-use osm_entity::{Bytes, Cause, NoMemory, Sequence, Spot, Steps, Text, TextError};
+use osm_entity::{Bytes, NoMemory, Sequence, Steps, Text, TextError};
 use osm_host::{FailAt, Fails, FileHeld, Files, Host, MemoryHost, Op};
-use osm_run::{DeviceCall, Fault, SourceEnd, Status, run_alone};
+use osm_run::{SourceEnd, Status, run_alone};
 use std::alloc::Global;
 use std::marker::Brand;
 use std::process::Abort;
@@ -14,7 +14,7 @@ use std::test::Fail;
 /// The words of a copy from `a` to `b`.
 const COPY: [&[u8]; 4] = [b"--read-opl", b"file=a", b"--write-opl", b"file=b"];
 
-/// Words that ask for no command.
+/// Words that ask for a command that is not built.
 const OTHER: [&[u8]; 4] = [b"--read-pbf", b"file=a", b"--write-opl", b"file=b"];
 
 /// What `b` holds before each run.
@@ -27,8 +27,8 @@ type Content = (&'static [u8], u32);
 type Failing = (&'static [u8], Op, u64);
 
 /// One run: what it shows, its words, the file `a`, the pieces of its pulls, the call that fails;
-/// then what `b` holds, the fault, and the reader's entry: how many bytes its source gave, and
-/// whether their end came.
+/// then what `b` holds, the exit status and what is said, and the reader's entry: how many bytes
+/// its source gave, and whether their end came.
 type Row = (
     &'static str,
     [&'static [u8]; 4],
@@ -36,7 +36,7 @@ type Row = (
     (u32, u32),
     Failing,
     &'static [u8],
-    Fault,
+    (u8, &'static [u8]),
     Option<(u64, bool)>,
 );
 
@@ -63,26 +63,14 @@ const PARTS_COPY: &[u8] = b"w5 v0 dV c0 t i0 u T N\nr6 v0 dV c0 t i0 u T Mn1@,w5
 
 const REFS_COPY: &[u8] = b"w5 v0 dV c0 t i0 u T Nn1,n2\n";
 
-fn device(task: u32, call: DeviceCall) -> Fault {
-    Fault::Device { task, call }
-}
-
-fn bad(cause: Cause, line: u64) -> Fault {
-    Fault::Input {
-        task: 0,
-        cause,
-        spot: Spot::Line(line),
-    }
-}
-
 #[rattlefmt::skip]
 fn rows() -> [Row; 28] {
-    let open_a = device(0, DeviceCall::Open);
-    let open_b = device(1, DeviceCall::Open);
-    let read = device(0, DeviceCall::Read);
-    let write = device(1, DeviceCall::Write);
-    let keep = device(1, DeviceCall::Keep);
-    let clean = Fault::Clean;
+    let open_a = (5, b"osm-tasks: task 0: open failed\n".as_slice());
+    let open_b = (5, b"osm-tasks: task 1: open failed\n".as_slice());
+    let read = (5, b"osm-tasks: task 0: read failed\n".as_slice());
+    let write = (5, b"osm-tasks: task 1: write failed\n".as_slice());
+    let keep = (5, b"osm-tasks: task 1: keep failed\n".as_slice());
+    let clean = (0, b"".as_slice());
     let digits = b"n1 v0 dV c0 t i0 u T x1 y1\n";
     let half = b"n1 v0 dV c0 t ";
     [
@@ -98,8 +86,8 @@ fn rows() -> [Row; 28] {
             PARTS_COPY, clean, Some((21, true))),
         ("an id is past 64 bits", COPY,
             (b"n-9223372036854775808 x180 y-90\nn9223372036854775808 x0 y0\n", 1), BOTH, NONE,
-            b"n-9223372036854775808 v0 dV c0 t i0 u T x180 y-90\n", bad(Cause::BadNumber, 2),
-            Some((59, false))),
+            b"n-9223372036854775808 v0 dV c0 t i0 u T x180 y-90\n",
+            (4, b"osm-tasks: task 0 line 2: bad number\n"), Some((59, false))),
         ("the second pull fails", COPY, UNENDED, (4096, 4096), (b"a", Op::Pull, 2), b"", read,
             Some((10, false))),
         ("the eleventh pull fails", COPY, UNENDED, (1, 1), (b"a", Op::Pull, 11), b"", read,
@@ -107,29 +95,29 @@ fn rows() -> [Row; 28] {
         ("blanks and comments are skipped", COPY, (b"# nodes\n\n \t\nn01 x1.50 y+2\n", 1), BOTH,
             NONE, LINE, clean, Some((26, true))),
         ("a second line is bad", COPY, (b"n1 x1.5 y2\nq5\n", 1), BOTH, NONE, LINE,
-            bad(Cause::BadField, 2), Some((14, false))),
-        ("x twice", COPY, (b"n1 x0 y0 x1\n", 1), BOTH, NONE, b"", bad(Cause::TwiceField, 1),
-            Some((12, false))),
-        ("no such letter", COPY, (b"n1 v0 q\n", 1), BOTH, NONE, b"", bad(Cause::BadField, 1),
-            Some((8, false))),
-        ("deleted", COPY, (b"n1 dD x0 y0\n", 1), BOTH, NONE, b"", bad(Cause::Deleted, 1),
-            Some((12, false))),
+            (4, b"osm-tasks: task 0 line 2: bad field\n"), Some((14, false))),
+        ("x twice", COPY, (b"n1 x0 y0 x1\n", 1), BOTH, NONE, b"",
+            (4, b"osm-tasks: task 0 line 1: field repeated\n"), Some((12, false))),
+        ("no such letter", COPY, (b"n1 v0 q\n", 1), BOTH, NONE, b"",
+            (4, b"osm-tasks: task 0 line 1: bad field\n"), Some((8, false))),
+        ("deleted", COPY, (b"n1 dD x0 y0\n", 1), BOTH, NONE, b"",
+            (4, b"osm-tasks: task 0 line 1: deleted object\n"), Some((12, false))),
         ("a longitude past 180", COPY, (b"n1 x181 y0\n", 1), BOTH, NONE, b"",
-            bad(Cause::BadCoordinate, 1), Some((11, false))),
+            (4, b"osm-tasks: task 0 line 1: bad coordinate\n"), Some((11, false))),
         ("a second of 60", COPY, (b"n1 t2010-01-01T00:00:60Z x0 y0\n", 1), BOTH, NONE, b"",
-            bad(Cause::BadTime, 1), Some((31, false))),
+            (4, b"osm-tasks: task 0 line 1: bad time\n"), Some((31, false))),
         ("no character", COPY, (b"n1 u%110000% x0 y0\n", 1), BOTH, NONE, b"",
-            bad(Cause::BadEscape, 1), Some((19, false))),
-        ("half a place", COPY, (b"n1 x0\n", 1), BOTH, NONE, b"", bad(Cause::NoPlace, 1),
-            Some((6, false))),
+            (4, b"osm-tasks: task 0 line 1: bad escape\n"), Some((19, false))),
+        ("half a place", COPY, (b"n1 x0\n", 1), BOTH, NONE, b"",
+            (4, b"osm-tasks: task 0 line 1: no place\n"), Some((6, false))),
         ("a tag without a key", COPY, (b"n1 T=b x0 y0\n", 1), BOTH, NONE, b"",
-            bad(Cause::BadField, 1), Some((13, false))),
-        ("no UTF-8", COPY, (b"n1 u\xff x0 y0\n", 1), BOTH, NONE, b"", bad(Cause::BadText, 1),
+            (4, b"osm-tasks: task 0 line 1: bad field\n"), Some((13, false))),
+        ("no UTF-8", COPY, (b"n1 u\xff x0 y0\n", 1), BOTH, NONE, b"", (4, b"osm-tasks: task 0 line 1: bad text\n"),
             Some((12, false))),
         ("a line of 16,777,217 bytes", COPY, (b"#", 16_777_217), BOTH, NONE, b"",
-            bad(Cause::LineTooLong, 1), Some((16_777_217, false))),
+            (4, b"osm-tasks: task 0 line 1: line too long\n"), Some((16_777_217, false))),
         ("a bad line is before a failed pull", COPY, (b"x\nn1 x0", 1), (4096, 4096),
-            (b"a", Op::Pull, 2), b"", bad(Cause::BadField, 1), Some((7, false))),
+            (b"a", Op::Pull, 2), b"", (4, b"osm-tasks: task 0 line 1: bad field\n"), Some((7, false))),
         ("there is no file to read", COPY, (b"", 0), BOTH, NONE, BEFORE, open_a, None),
         ("no file can be made", COPY, NODE, BOTH, (b"b", Op::Make, 1), BEFORE, open_b,
             Some((0, false))),
@@ -138,8 +126,8 @@ fn rows() -> [Row; 28] {
         ("the keep fails", COPY, NODE, BOTH, (b"b", Op::Keep, 1), b"", keep, Some((11, true))),
         ("spaces stand at both ends", COPY, (b" w5  Nn1,n2 ", 1), BOTH, NONE, REFS_COPY, clean,
             Some((12, true))),
-        ("other words are no command", OTHER, NODE, BOTH, NONE, BEFORE, Fault::NotBuilt { task: 0 },
-            None),
+        ("other words are no copy", OTHER, NODE, BOTH, NONE, BEFORE,
+            (2, b"osm-tasks: task 0: not built\n"), None),
     ]
 }
 
@@ -222,29 +210,30 @@ fn held(host: &MemoryHost) -> Option<&[u8]> {
     None
 }
 
-fn check(rt: &(impl Abort + AllocGlobal), row: Row, piece: u32) -> Result<(), Fail>
+fn check(rt: &(impl Abort + AllocGlobal), row: Row, piece: u32, mute: bool) -> Result<(), Fail>
     requires { 0 < piece }
 {
-    let (says, words, a, _, fails, b, fault, end) = row;
+    let (shows, words, a, _, fails, b, (code, line), end) = row;
     let alloc = rt.alloc();
     let files = files_of(alloc, a)?;
-    let mut host = MemoryHost::new(alloc, files, piece, fails_of(alloc, fails)?, true)?;
+    let mut host = MemoryHost::new(alloc, files, piece, fails_of(alloc, fails)?, mute)?;
     let words = words_of(alloc, &words)?;
     let status = run_on(alloc, words.as_slice(), &mut host);
-    assert_eq!(rt; held(&host), Some(b), "{says}");
-    assert_eq!(rt; status.fault, fault, "{says}");
+    assert_eq!(rt; held(&host), Some(b), "{shows}");
+    assert_eq!(rt; status.code, code, "{shows}");
     let entries = status.ends.as_slice();
     if let Some((given, clean)) = end {
         let task = 0;
         assert_eq!(rt;
             entries,
             [SourceEnd { task, given, clean }].as_slice(),
-            "{says}"
+            "{shows}"
         );
     } else {
-        assert_eq!(rt; entries.len(), 0, "{says}");
+        assert_eq!(rt; entries.len(), 0, "{shows}");
     }
-    assert_eq!(rt; host.said().len(), 0, "{says}");
+    let line = if mute { b"".as_slice() } else { line };
+    assert_eq!(rt; host.said().as_slice(), line, "{shows}");
     Ok(())
 }
 
@@ -252,8 +241,9 @@ fn check(rt: &(impl Abort + AllocGlobal), row: Row, piece: u32) -> Result<(), Fa
 fn runs_are_as_their_rows_say(rt: HostRuntime) -> Result<(), Fail> {
     for row in rows() {
         for piece in [row.3.0, row.3.1] {
-            check(&rt, row, piece.max(1))?;
+            check(&rt, row, piece.max(1), false)?;
         }
+        check(&rt, row, 4096, true)?;
     }
     Ok(())
 }
