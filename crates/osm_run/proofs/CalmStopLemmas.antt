@@ -9,6 +9,10 @@ use Rattle.osm_entity.specs.Meaning.{Finish, Whole, Passed, Cut, Wrong}
 use Rattle.osm_host.specs.Contents.{Files}
 use Rattle.osm_host.specs.Moments.{Moment}
 use Rattle.osm_host.specs.declared.outside.Op.TheVariants.{Open as OpenOp, Make, Pull}
+use Rattle.osm_report.specs.declared.fault.Fault.{Fault}
+use Rattle.osm_report.specs.declared.fault.Fault.TheVariants.{TooLong, Device}
+use Rattle.osm_report.specs.declared.fault.DeviceCall.{DeviceCall}
+use Rattle.osm_report.specs.declared.fault.DeviceCall.TheVariants.{Open, Read, Spill}
 use Rattle.osm_run.specs.Plan.{Polygon, Source, Store, Sink, Use, uses}
 use Rattle.osm_run.specs.Command.{Command}
 use Rattle.osm_run.specs.Course.{Course, polygon_limit, call_fault, wrong_fault, opening_faults, first_fault}
@@ -16,10 +20,6 @@ use Rattle.osm_run.specs.OnHost.{IsAtRest, IsReadFrom, GivesFile}
 use Rattle.osm_run.specs.HowFar.{WhereTold, HowRead, ReachedEnd, PassedLimit, PullFailed, WasWrong, WasOpened, FilesMade, AfterStop}
 use Rattle.osm_run.specs.Outcome.{IsRun}
 use Rattle.osm_run.specs.Headline.{NoneRose, IsUnspilled, IsCalmStop, WasTooLong, WasBad}
-use Rattle.osm_run.specs.declared.status.Fault.{Fault}
-use Rattle.osm_run.specs.declared.status.Fault.TheVariants.{TooLong, Device}
-use Rattle.osm_run.specs.declared.status.DeviceCall.{DeviceCall}
-use Rattle.osm_run.specs.declared.status.DeviceCall.TheVariants.{Open, Read, Spill}
 use Rattle.osm_run.specs.declared.status.Status.{Status}
 use Rattle.osm_run.proofs.EachLemmas.{all_more, all_left}
 use Rattle.osm_run.proofs.PlanLemmas.{all_openings}

@@ -7,6 +7,10 @@ use Rattle.std.proofs.lemmas.Bool.{ltb-true, ltb-false}
 use Rattle.osm_entity.specs.Meaning.{Finish, Whole, Passed, Cut, Wrong, Meaning}
 use Rattle.osm_host.specs.Moments.{Moment}
 use Rattle.osm_host.specs.declared.outside.Op.TheVariants.{Open as OpenOp, Make, Pull, Put, Keep as KeepOp}
+use Rattle.osm_report.specs.declared.fault.Fault.{Fault}
+use Rattle.osm_report.specs.declared.fault.Fault.TheVariants.{TooLong, Device, Input}
+use Rattle.osm_report.specs.declared.fault.DeviceCall.{DeviceCall}
+use Rattle.osm_report.specs.declared.fault.DeviceCall.TheVariants.{Open, Read, Write, Keep, Spill}
 use Rattle.osm_run.specs.Plan.{File, Polygon, Source, Store, Sink, Use, numbered, uses, is_named, is_called}
 use Rattle.osm_run.specs.Command.{Command}
 use Rattle.osm_run.specs.Course.{Course, source_limit, polygon_limit, meaning_of, call_fault, wrong_fault, opening_faults, file_faults, task_faults, keep_faults, first_fault, entry, entries, any_failed}
@@ -15,10 +19,6 @@ use Rattle.osm_run.specs.HowFar.{HowRead, ReachedEnd, PassedLimit, PullFailed, W
 use Rattle.osm_run.specs.Outcome.{IsRun}
 use Rattle.osm_run.specs.Causes.{GaveTooMuch, OfPolygon, OfSource, NoneClean, CauseOf, AtPolygon, AtTask}
 use Rattle.osm_run.specs.Headline.{TellsReader}
-use Rattle.osm_run.specs.declared.status.Fault.{Fault}
-use Rattle.osm_run.specs.declared.status.Fault.TheVariants.{TooLong, Device, Input}
-use Rattle.osm_run.specs.declared.status.DeviceCall.{DeviceCall}
-use Rattle.osm_run.specs.declared.status.DeviceCall.TheVariants.{Open, Read, Write, Keep, Spill}
 use Rattle.osm_run.specs.declared.status.SourceEnd.{SourceEnd}
 use Rattle.osm_run.specs.declared.status.Status.{Status}
 use Rattle.osm_run.proofs.EachLemmas.{all_more, all_both, all_pairs, all_flat_map}

@@ -7,6 +7,8 @@ use Rattle.osm_host.specs.Contents.{Files}
 use Rattle.osm_host.specs.Moments.{Moment}
 use Rattle.osm_host.specs.declared.outside.Op.{Op}
 use Rattle.osm_host.specs.declared.outside.Op.TheVariants.{Open as OpenOp, Make, Pull, Put, Keep as KeepOp}
+use Rattle.osm_report.specs.declared.fault.Fault.TheVariants.{Clean, Memory}
+use Rattle.osm_report.specs.declared.fault.DeviceCall.TheVariants.{Open, Write, Keep, Spill}
 use Rattle.osm_run.specs.Plan.{Polygon, Source, Store, Sink, Use, numbered, uses, openings, is_named, is_called, is_store}
 use Rattle.osm_run.specs.Command.{Command}
 use Rattle.osm_run.specs.Course.{Course, source_limit, polygon_limit, meaning_of, call_fault, cut_fault, wrong_fault, opening_faults, file_faults, task_faults, keep_faults, run_faults, entry, any_failed, is_spilled, is_cut_short}
@@ -15,8 +17,6 @@ use Rattle.osm_run.specs.HowFar.{WhereTold, HowRead, ReachedEnd, PassedLimit, Pu
 use Rattle.osm_run.specs.Outcome.{IsRun}
 use Rattle.osm_run.specs.Headline.{EachFileNow, HoldsBytes}
 use Rattle.osm_run.specs.Lawful.{EndCame, IsRight, EndsWhole, IsLawful}
-use Rattle.osm_run.specs.declared.status.Fault.TheVariants.{Clean, Memory}
-use Rattle.osm_run.specs.declared.status.DeviceCall.TheVariants.{Open, Write, Keep, Spill}
 use Rattle.osm_run.specs.declared.status.Status.{Status}
 use Rattle.osm_run.proofs.EachLemmas.{all_more, all_both, all_pairs, flat_map_all, none_left, none_right, none_each, none_any}
 use Rattle.osm_run.proofs.PlanLemmas.{all_uses, all_openings, tasks_all}

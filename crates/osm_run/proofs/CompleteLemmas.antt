@@ -7,6 +7,7 @@ use Rattle.osm_entity.specs.Meaning.{Finish, Whole, Passed, Cut, Wrong}
 use Rattle.osm_host.specs.Contents.{Files}
 use Rattle.osm_host.specs.Moments.{Moment}
 use Rattle.osm_host.specs.declared.outside.Op.TheVariants.{Put, Keep}
+use Rattle.osm_report.specs.declared.fault.Fault.TheVariants.{Input}
 use Rattle.osm_run.specs.Plan.{File, Polygon, Source, Store, Sink, Use, numbered, uses, openings, is_store}
 use Rattle.osm_run.specs.Command.{Command}
 use Rattle.osm_run.specs.Course.{Course, source_limit, meaning_of, wrong_fault, opening_faults, file_faults, task_faults, keep_faults, run_faults, is_spilled, is_cut_short}
@@ -15,7 +16,6 @@ use Rattle.osm_run.specs.HowFar.{WhereTold, WasUsed, IsWritten, FilesAfter, Afte
 use Rattle.osm_run.specs.Outcome.{IsRun}
 use Rattle.osm_run.specs.Lawful.{GoesOnAlike, IsSameMeaning, IsLawful}
 use Rattle.osm_run.specs.Headline.{RanItsTasks, HoldsBytes, IsWholeFile, IsWholeCourse, IsComplete, NoneRose, IsUnspilled}
-use Rattle.osm_run.specs.declared.status.Fault.TheVariants.{Input}
 use Rattle.osm_run.specs.declared.status.Status.{Status}
 use Rattle.osm_run.proofs.EachLemmas.{all_more, all_both, all_pairs, none_any, none_each}
 use Rattle.osm_run.proofs.PlanLemmas.{all_uses, all_tasks}

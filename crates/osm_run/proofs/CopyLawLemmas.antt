@@ -15,20 +15,21 @@ use Rattle.osm_host.specs.declared.outside.Op.{Op}
 use Rattle.osm_host.specs.declared.outside.Op.TheVariants.{Put, Keep}
 use Rattle.osm_opl_line.specs.Reading.{opl_reading}
 use Rattle.osm_opl_line.specs.Writing.{opl_text}
+use Rattle.osm_report.specs.declared.fault.Fault.{Fault}
+use Rattle.osm_report.specs.declared.fault.Fault.TheVariants.{Clean, Words, Task, Graph, Buffering, NotBuilt, Input, TooLong, Device, Memory}
+use Rattle.osm_report.specs.declared.fault.DeviceCall.TheVariants.{Open}
 use Rattle.osm_run.specs.Plan.{uses}
 use Rattle.osm_run.specs.Command.{Command}
 use Rattle.osm_run.specs.Course.{Course, source_limit, meaning_of}
 use Rattle.osm_run.specs.OnHost.{IsReadFrom}
 use Rattle.osm_run.specs.HowFar.{WhereTold, AfterStop, AfterTasks, HowFar, Stopped, Ran, OutOfMemory}
 use Rattle.osm_run.specs.Outcome.{IsRun, IsRefusedOrRun, IsUnchanged}
+use Rattle.osm_run.specs.Asked.{IsRefusal, graph_asked}
 use Rattle.osm_run.specs.Causes.{HasCauses}
 use Rattle.osm_run.specs.Codes.{code_of}
-use Rattle.osm_run.specs.Copying.{copy_command, command_of, IsCopyRun, IsNotBuilt}
+use Rattle.osm_run.specs.Copying.{copy_command}
 use Rattle.osm_run.specs.Headline.{RanItsTasks, OthersStay, NoneRose, HoldsBytes, HoldsUnlessRose, HoldsPrefixUnlessRose, SameFiles, IsWholeCourse, IsComplete, content}
 use Rattle.osm_run.specs.Promises.{IsCopyOf, IsWholeCopy, AreLinesRead, HoldsLinesRead, HoldsPrefixRead, IsCalmCopy}
-use Rattle.osm_run.specs.declared.status.Fault.{Fault}
-use Rattle.osm_run.specs.declared.status.Fault.TheVariants.{Clean, NotBuilt, Input, TooLong, Device, Memory}
-use Rattle.osm_run.specs.declared.status.DeviceCall.TheVariants.{Open}
 use Rattle.osm_run.specs.declared.status.SourceEnd.{SourceEnd}
 use Rattle.osm_run.specs.declared.status.Status.{Status}
 use Rattle.osm_run.proofs.EachLemmas.{all_more}
@@ -43,40 +44,13 @@ use Rattle.osm_run.proofs.LawfulLemmas.{copy_lawful}
 use Rattle.osm_run.proofs.CopyStopLemmas.{IsOfCopy, all_of_copy, no_stop, open_fault, opens_same}
 use Rattle.osm_run.proofs.CopyReadLemmas.{copy_read, ended_within, finish_whole, whole_course, is_whole, whole_fault}
 
--- refused words name task 0
-refused_exactly : (asked : Option Command) (before after : Moment) (status : Status) →
-    IsRefusedOrRun IsNotBuilt asked before after status → (task : ℕ) →
-    (status.fault ≡ NotBuilt task) ↔ ((asked ≡ None) × (task ≡ 0))
-refused_exactly None before after status r task = (
-  λ is. let same : NotBuilt 0 ≡ NotBuilt task = sym r.fault ∙ is in (refl, cc),
-  λ is. r.fault ∙ ap (λ t. NotBuilt t) (sym is.1),
-)
-refused_exactly (Some k) before after status run task = (
-  λ is. absurd ((not_refused k run.course before after status run.how_far).0 (ap code_of is)),
-  λ is. absurd (let no : Some k ≡ None = is.0 in cc),
-)
-
-pub words_refused : (words : List (List ℕ)) (before after : Moment) (status : Status) →
-    IsCopyRun words before after status → (task : ℕ) →
-    (status.fault ≡ NotBuilt task) ↔ ((command_of words ≡ None) × (task ≡ 0))
-words_refused words before after status run =
-    refused_exactly (command_of words) before after status run.outcome.run
-
-refused_same : (asked : Option Command) (before after : Moment) (status : Status) →
-    IsRefusedOrRun IsNotBuilt asked before after status → code_of status.fault ≡ 2 →
-    (status.ends ≡ []) × IsUnchanged before after
-refused_same None before after status r code = (r.ends, r.same)
-refused_same (Some k) before after status run code =
-    absurd ((not_refused k run.course before after status run.how_far).0 code)
-
-pub words_same : (words : List (List ℕ)) (before after : Moment) (status : Status) →
-    IsCopyRun words before after status → status.code ≡ 2 → (status.ends ≡ []) × IsUnchanged before after
-words_same words before after status run code =
-    refused_same (command_of words) before after status run.outcome.run (sym run.code ∙ code)
-
 -- status 0 is that of no fault
 clean_code : (fault : Fault) → code_of fault ≡ 0 → fault ≡ Clean
 clean_code Clean is = refl
+clean_code (Words error) is = absurd (omega (arith, is))
+clean_code (Task error) is = absurd (omega (arith, is))
+clean_code (Graph error) is = absurd (omega (arith, is))
+clean_code (Buffering circle) is = absurd (omega (arith, is))
 clean_code (NotBuilt task) is = absurd (omega (arith, is))
 clean_code (Input task cause spot) is = absurd (omega (arith, is))
 clean_code (TooLong task) is = absurd (omega (arith, is))
@@ -91,7 +65,7 @@ module _ (from to : List ℕ) (before after : Moment) (status : Status)
     (copy : IsCopyOf from to before after status) where
   -- the run of the copy
   run_of : IsRun (copy_command from to) before after status
-  run_of = subst (λ asked. IsRefusedOrRun IsNotBuilt asked before after status) copy.asked copy.run.outcome.run
+  run_of = subst (λ asked. IsRefusedOrRun (IsRefusal (graph_asked copy.words)) asked before after status) copy.asked copy.run.outcome.run
 
   no_fault : status.code ≡ 0 → status.fault ≡ Clean
   no_fault code = clean_code status.fault (sym copy.run.code ∙ code)

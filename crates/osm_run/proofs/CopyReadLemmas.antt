@@ -14,15 +14,15 @@ use Rattle.osm_host.specs.Contents.{Files}
 use Rattle.osm_host.specs.Moments.{Moment}
 use Rattle.osm_host.specs.declared.outside.Op.TheVariants.{Pull}
 use Rattle.osm_opl_line.specs.Reading.{opl_reading}
+use Rattle.osm_report.specs.declared.fault.Fault.{Fault}
+use Rattle.osm_report.specs.declared.fault.Fault.TheVariants.{TooLong, Device}
+use Rattle.osm_report.specs.declared.fault.DeviceCall.TheVariants.{Read}
 use Rattle.osm_run.specs.Course.{Course, source_limit, meaning_of, wrong_fault, run_faults, first_fault}
 use Rattle.osm_run.specs.OnHost.{IsReadFrom, GivesFrom, GivesFile, IsCourse}
 use Rattle.osm_run.specs.HowFar.{HowRead, ReachedEnd, PassedLimit, PullFailed, WasWrong, AfterTasks}
 use Rattle.osm_run.specs.Copying.{copy_command}
 use Rattle.osm_run.specs.Headline.{IsWholeCourse, content}
 use Rattle.osm_run.specs.Promises.{whole_reading, fault_read}
-use Rattle.osm_run.specs.declared.status.Fault.{Fault}
-use Rattle.osm_run.specs.declared.status.Fault.TheVariants.{TooLong, Device}
-use Rattle.osm_run.specs.declared.status.DeviceCall.TheVariants.{Read}
 use Rattle.osm_run.specs.declared.status.Status.{Status}
 use Rattle.osm_run.proofs.CleanLemmas.{no_bool}
 use Rattle.osm_run.proofs.LawfulLemmas.{wrong_read}

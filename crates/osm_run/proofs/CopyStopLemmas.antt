@@ -3,6 +3,9 @@ use Rattle.std.proofs.Common.{◌≡◌, ℕ, List, [], ◌∷◌, ◌++◌, len
 use Rattle.std.specs.List.{AllByRecursion}
 use Rattle.osm_host.specs.Moments.{Moment}
 use Rattle.osm_host.specs.declared.outside.Op.TheVariants.{Open as OpenOp, Make}
+use Rattle.osm_report.specs.declared.fault.Fault.{Fault}
+use Rattle.osm_report.specs.declared.fault.Fault.TheVariants.{Device, Memory}
+use Rattle.osm_report.specs.declared.fault.DeviceCall.TheVariants.{Open}
 use Rattle.osm_run.specs.Plan.{Polygon, Source, Store, Sink, Use, openings, is_sink, is_sink_named}
 use Rattle.osm_run.specs.Course.{Course, call_fault, opening_faults, first_fault}
 use Rattle.osm_run.specs.OnHost.{IsCourse}
@@ -10,9 +13,6 @@ use Rattle.osm_run.specs.HowFar.{WhereTold, FilesMade, HowFar, Stopped, Ran, Out
 use Rattle.osm_run.specs.Outcome.{IsRun}
 use Rattle.osm_run.specs.Copying.{copy_command}
 use Rattle.osm_run.specs.Headline.{SameFiles}
-use Rattle.osm_run.specs.declared.status.Fault.{Fault}
-use Rattle.osm_run.specs.declared.status.Fault.TheVariants.{Device, Memory}
-use Rattle.osm_run.specs.declared.status.DeviceCall.TheVariants.{Open}
 use Rattle.osm_run.specs.declared.status.Status.{Status}
 use Rattle.osm_run.proofs.EachLemmas.{all_left, all_more}
 use Rattle.osm_run.proofs.FirstFaultLemmas.{is_opening, first_later}

@@ -4,6 +4,9 @@ use Rattle.std.specs.Prelude.{if◌then◌else◌}
 use Rattle.std.specs.List.{AllByRecursion}
 use Rattle.osm_host.specs.Moments.{Moment}
 use Rattle.osm_host.specs.declared.outside.Op.TheVariants.{Make, Pull}
+use Rattle.osm_report.specs.declared.fault.Fault.{Fault}
+use Rattle.osm_report.specs.declared.fault.Fault.TheVariants.{Device}
+use Rattle.osm_report.specs.declared.fault.DeviceCall.TheVariants.{Open}
 use Rattle.osm_run.specs.Plan.{Polygon, Source, Store, Sink, Use, uses, is_sink}
 use Rattle.osm_run.specs.Command.{Command}
 use Rattle.osm_run.specs.Course.{Course, source_limit, meaning_of, call_fault, opening_faults, first_fault, entry, entries}
@@ -11,9 +14,6 @@ use Rattle.osm_run.specs.OnHost.{IsCourse}
 use Rattle.osm_run.specs.HowFar.{HowRead, ReachedEnd, PassedLimit, PullFailed, WasWrong, WasUsed, HowFar, Stopped, Ran, OutOfMemory}
 use Rattle.osm_run.specs.Outcome.{IsRun}
 use Rattle.osm_run.specs.Causes.{RoseAt, UncleanBy, AtMemory, AtOpening, AtWrong, AtLimit, AtPull}
-use Rattle.osm_run.specs.declared.status.Fault.{Fault}
-use Rattle.osm_run.specs.declared.status.Fault.TheVariants.{Device}
-use Rattle.osm_run.specs.declared.status.DeviceCall.TheVariants.{Open}
 use Rattle.osm_run.specs.declared.status.SourceEnd.{SourceEnd}
 use Rattle.osm_run.specs.declared.status.Status.{Status}
 use Rattle.osm_run.proofs.EachLemmas.{all_both, all_every, flat_map_all}

@@ -6,12 +6,12 @@ use Rattle.osm_entity.specs.Meaning.{finish_read, finish_after}
 use Rattle.osm_entity.specs.Readings.{Ending, Whole, Cut, Bad, end_read, verdict_read}
 use Rattle.osm_entity.specs.declared.verdict.Verdict.TheVariants.{TooLong as TooMuch, Read as NotRead}
 use Rattle.osm_host.specs.declared.outside.Op.TheVariants.{Pull}
+use Rattle.osm_report.specs.declared.fault.Fault.{Fault}
+use Rattle.osm_report.specs.declared.fault.Fault.TheVariants.{Clean, TooLong, Device}
+use Rattle.osm_report.specs.declared.fault.DeviceCall.TheVariants.{Read, Write, Keep}
 use Rattle.osm_run.specs.Course.{Course, source_limit, call_fault, wrong_fault, first_fault}
 use Rattle.osm_run.specs.Faults.{fault_by_verdict}
 use Rattle.osm_run.specs.HowFar.{HowRead, ReachedEnd, PassedLimit, PullFailed, WasWrong}
-use Rattle.osm_run.specs.declared.status.Fault.{Fault}
-use Rattle.osm_run.specs.declared.status.Fault.TheVariants.{Clean, TooLong, Device}
-use Rattle.osm_run.specs.declared.status.DeviceCall.TheVariants.{Read, Write, Keep}
 
 -- what is left of a copy's faults after its tasks'
 abbrev pub left_by : Bool → Fault

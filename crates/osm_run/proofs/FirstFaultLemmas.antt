@@ -3,6 +3,10 @@ use Rattle.std.proofs.Common.{◌≡◌, ℕ, List, [], ◌∷◌, ◌++◌, len
 use Rattle.std.specs.Prelude.{flat_map, nat_lt, if◌then◌else◌}
 use Rattle.std.specs.List.{AllByRecursion}
 use Rattle.osm_host.specs.declared.outside.Op.TheVariants.{Open as OpenOp, Make, Put, Keep as KeepOp}
+use Rattle.osm_report.specs.declared.fault.Fault.{Fault}
+use Rattle.osm_report.specs.declared.fault.Fault.TheVariants.{Clean, Words, Task, Graph, Buffering, NotBuilt, Input, TooLong, Device, Memory}
+use Rattle.osm_report.specs.declared.fault.DeviceCall.{DeviceCall}
+use Rattle.osm_report.specs.declared.fault.DeviceCall.TheVariants.{Open, Read, Write, Keep, Spill}
 use Rattle.osm_run.specs.Plan.{File, Polygon, Source, Store, Sink, Use, numbered, uses}
 use Rattle.osm_entity.specs.Meaning.{Finish, Whole, Passed, Cut, Wrong, Meaning}
 use Rattle.osm_entity.specs.declared.verdict.Cause.{Cause}
@@ -10,10 +14,6 @@ use Rattle.osm_entity.specs.declared.verdict.Spot.{Spot}
 use Rattle.osm_run.specs.Command.{Command}
 use Rattle.osm_run.specs.Course.{Course, source_limit, polygon_limit, meaning_of, call_fault, cut_fault, wrong_fault, opening_faults, file_faults, task_faults, keep_faults, run_faults, first_fault}
 use Rattle.osm_run.specs.Codes.{code_of}
-use Rattle.osm_run.specs.declared.status.Fault.{Fault}
-use Rattle.osm_run.specs.declared.status.Fault.TheVariants.{Clean, NotBuilt, Input, TooLong, Device, Memory}
-use Rattle.osm_run.specs.declared.status.DeviceCall.{DeviceCall}
-use Rattle.osm_run.specs.declared.status.DeviceCall.TheVariants.{Open, Read, Write, Keep, Spill}
 use Rattle.osm_run.proofs.EachLemmas.{all_append, all_every, flat_map_all}
 
 -- whether a fault is of a file or of a task's input
@@ -154,6 +154,10 @@ cut_none c task limit = cut_none_case task (c.clean task) (nat_lt limit (length 
 -- a fault that is met is no refusal, and not out of memory
 pub met_code : (fault : Fault) → IsMet fault → (code_of fault ≡ 2 → ⊥) × (code_of fault ≡ 3 → ⊥)
 met_code Clean met = absurd (let no : false ≡ true = met in cc)
+met_code (Words error) met = absurd (let no : false ≡ true = met in cc)
+met_code (Task error) met = absurd (let no : false ≡ true = met in cc)
+met_code (Graph error) met = absurd (let no : false ≡ true = met in cc)
+met_code (Buffering circle) met = absurd (let no : false ≡ true = met in cc)
 met_code (NotBuilt task) met = absurd (let no : false ≡ true = met in cc)
 met_code (Input task cause spot) met = (λ is. omega (arith, is), λ is. omega (arith, is))
 met_code (TooLong task) met = (λ is. omega (arith, is), λ is. omega (arith, is))

@@ -2,8 +2,8 @@
 use Rattle.std.proofs.Common.{◌≡◌, List, [], ◌∷◌, ◌++◌, refl, ap, subst, ◌∙◌, inl, inr}
 use Rattle.std.specs.Prelude.{flat_map, ◌⊎◌}
 use Rattle.std.specs.List.{AllByRecursion}
+use Rattle.osm_report.specs.declared.fault.Fault.{Fault}
 use Rattle.osm_run.specs.Course.{first_fault}
-use Rattle.osm_run.specs.declared.status.Fault.{Fault}
 use Rattle.osm_run.proofs.EachLemmas.{all_right}
 
 -- the first element of a list that has a fault, and no fault before it

@@ -1,6 +1,7 @@
 pub mod PullLemmas
 pub mod PutLemmas
 pub mod ReadLemmas
+pub mod RefusalLemmas
 pub mod CopyCourse
 pub mod KnownLemmas
 pub mod CountLemmas
@@ -9,7 +10,6 @@ pub mod FaultLemmas
 pub mod OpeningLemmas
 pub mod OutcomeLemmas
 pub mod SayingLemmas
-pub mod WordLemmas
 pub mod EachLemmas
 pub mod PlanLemmas
 pub mod FirstFaultLemmas
@@ -23,6 +23,7 @@ pub mod EntryLemmas
 pub mod SameFirstLemmas
 pub mod WholeLemmas
 pub mod CompleteLemmas
+pub mod AskedLemmas
 pub mod CalmStopLemmas
 pub mod LawfulLemmas
 pub mod CopyStopLemmas

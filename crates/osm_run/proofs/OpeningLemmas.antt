@@ -9,6 +9,7 @@ use Rattle.osm_host.specs.Names.{KnownByCall}
 use Rattle.osm_host.specs.declared.outside.HostError.{HostError}
 use Rattle.osm_host.specs.declared.outside.HostError.TheVariants.{Failed, Memory as HostMemory}
 use Rattle.osm_host.specs.declared.outside.Op.TheVariants.{Open, Make}
+use Rattle.osm_report.specs.declared.fault.Fault.TheVariants.{Memory}
 use Rattle.osm_run.specs.Plan.{Source, Sink, Use, names_of}
 use Rattle.osm_run.specs.Copying.{copy_command}
 use Rattle.osm_run.specs.Course.{Course, given_under}
@@ -16,7 +17,6 @@ use Rattle.osm_run.specs.Faults.{opening_fault}
 use Rattle.osm_run.specs.HowFar.{FilesMade, IsBeforeSinks, OthersAtMemory, OutOfMemory, Stopped}
 use Rattle.osm_run.specs.OnHost.{CountsBy, GivesFile, IsAtRest, SameNames}
 use Rattle.osm_run.specs.Outcome.{IsRun}
-use Rattle.osm_run.specs.declared.status.Fault.TheVariants.{Memory}
 use Rattle.osm_run.specs.declared.status.SourceEnd.{SourceEnd}
 use Rattle.osm_run.specs.declared.status.Status.{Status}
 use Rattle.osm_run.proofs.CopyCourse.{at_rest, both_files, counts_of_none, counts_of_sink, counts_of_source, gave_none, gave_none_both, gave_none_source, none_failed, one_failed, rest_course, sink_gives, source_file, source_rests}

@@ -17,6 +17,7 @@ use Rattle.osm_host.specs.Pulls.{SourceValue}
 use Rattle.osm_host.specs.declared.outside.HostError.{HostError}
 use Rattle.osm_host.specs.declared.outside.HostError.TheVariants.{Failed, Memory as HostMemory}
 use Rattle.osm_host.specs.declared.outside.Op.TheVariants.{Pull}
+use Rattle.osm_report.specs.declared.fault.Fault.TheVariants.{Memory}
 use Rattle.osm_run.specs.Copying.{copy_command}
 use Rattle.osm_run.specs.Course.{Course, source_limit}
 use Rattle.osm_run.specs.Faults.{entry_of, fault_by, fault_by_verdict}
@@ -27,7 +28,6 @@ use Rattle.osm_run.specs.Pulling.{Pulled, PulledSome}
 use Rattle.osm_run.specs.Reading.{reading_of}
 use Rattle.osm_run.specs.Tasks.{TakenBy, ItemsCopied}
 use Rattle.osm_run.specs.declared.copying.Ran.{Ran as RanValue}
-use Rattle.osm_run.specs.declared.status.Fault.TheVariants.{Memory}
 use Rattle.osm_run.specs.declared.status.Status.{Status}
 use Rattle.osm_run.proofs.CopyCourse.{both_files, copy_course, failed_by, has_failed, or_false, sink_gives}
 use Rattle.osm_run.proofs.CountLemmas.{any_faults, are_any, counts_after, gave_after}

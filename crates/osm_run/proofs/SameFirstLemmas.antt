@@ -3,8 +3,8 @@ use Rattle.std.proofs.Common.{◌≡◌, List, [], ◌∷◌, ◌++◌, refl, sy
 use Rattle.std.specs.Prelude.{flat_map}
 use Rattle.std.specs.List.{AllByRecursion}
 use Rattle.std.proofs.lemmas.List.{append-nil}
+use Rattle.osm_report.specs.declared.fault.Fault.{Fault}
 use Rattle.osm_run.specs.Course.{first_fault}
-use Rattle.osm_run.specs.declared.status.Fault.{Fault}
 
 -- lists of faults whose first is one, whatever comes after them
 pub SameFirst : List Fault → List Fault → Type 0

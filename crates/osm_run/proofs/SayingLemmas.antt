@@ -1,10 +1,22 @@
--- Lemmas on what was said.
-use Rattle.std.proofs.Common.{◌≡◌, ℕ, List, [], refl, sym, ap, arith, ◌∙◌}
-use Rattle.std.specs.Prelude.{Option, Some, None}
+-- Lemmas on what was said, and on what a run shows where only that changed after it.
+use Rattle.std.proofs.Common.{◌≡◌, ◌+◌, ◌≤◌, ℕ, List, [], refl, sym, ap, subst, arith, ◌∙◌}
+use Rattle.std.specs.Prelude.{◌≢◌, Option, Some, None, Result, Ok, Err, OnOk}
 use Rattle.std.specs.Io.KnownBytes.{append_known}
 use Rattle.std.proofs.lemmas.List.{append-nil}
+use Rattle.osm_host.specs.Counts.{CountsFailure, Rose}
 use Rattle.osm_host.specs.Moments.{Moment}
-use Rattle.osm_run.specs.Outcome.{IsSaid}
+use Rattle.osm_host.specs.declared.outside.Failed.{Failed as Failure}
+use Rattle.osm_host.specs.declared.outside.Op.{Op}
+use Rattle.osm_report.specs.Lines.{fault_text}
+use Rattle.osm_report.specs.declared.fault.Fault.{Fault}
+use Rattle.osm_report.specs.declared.fault.Fault.TheVariants.{Clean}
+use Rattle.osm_run.specs.Command.{Command}
+use Rattle.osm_run.specs.Course.{Course, any_failed}
+use Rattle.osm_run.specs.HowFar.{AfterMemory, AfterStop, AfterTasks, FilesAfter, FilesMade, HowFar, OthersAtMemory, OutOfMemory, Ran, Stopped, WhereTold}
+use Rattle.osm_run.specs.OnHost.{CountsBy, IsCourse, SameNames}
+use Rattle.osm_run.specs.Outcome.{IsRefusedOrRun, IsRun, IsSaid}
+use Rattle.osm_run.specs.Plan.{Plan}
+use Rattle.osm_run.specs.declared.status.Status.{Status}
 
 append_none : (told : Option (List ℕ)) → told ≡ append_known told []
 append_none None = refl
@@ -18,3 +30,103 @@ said_nothing before after said mute = record {
   later = omega (arith, mute);
   said = λ calm. said ∙ append_none before.said;
 }
+
+-- the line of a fault isn't empty
+line_there : (fault : Fault) → fault ≢ Clean → fault_text fault ≢ []
+line_there Clean not is = absurd (not refl)
+line_there fault not is = cc
+
+-- where a line was given to be said
+pub said_line : {T : Type 0} (fault : Fault) (before after : Moment) (answer : Result T Failure) → fault ≢ Clean →
+    OnOk answer (after.said ≡ append_known before.said (fault_text fault)) →
+    CountsFailure answer before.mute after.mute → IsSaid (fault_text fault) before after
+said_line fault before after (Ok x) not said mute = record {
+  silent = λ is. absurd (line_there fault not is);
+  later = omega (arith, mute);
+  said = λ calm. said;
+}
+said_line fault before after (Err e) not said mute = record {
+  silent = λ is. absurd (line_there fault not is);
+  later = mute.later;
+  said = λ calm. absurd (calm mute.rose);
+}
+
+-- what is said after a run in which nothing was said
+pub said_later : (text : List ℕ) (before between after : Moment) → between.said ≡ before.said →
+    between.mute ≡ before.mute → IsSaid text between after → IsSaid text before after
+said_later text before between after said mute is = record {
+  silent = λ empty. ((is.silent empty).0 ∙ said, (is.silent empty).1 ∙ mute);
+  later = subst (λ n. n ≤ after.mute) mute is.later;
+  said = λ calm. is.said (subst (λ n. Rose n after.mute → ⊥) (sym mute) calm)
+      ∙ ap (λ told. append_known told text) said;
+}
+
+module _ (before between after : Moment) (files : after.files ≡ between.files)
+    (counts : (op : Op) (n : List ℕ) → after.count op n ≡ between.count op n)
+    (gave : (n : List ℕ) → after.gave n ≡ between.gave n) (known : after.known ≡ between.known) where
+  course_later : (plan : Plan) (c : Course) → IsCourse plan c before between → IsCourse plan c before after
+  course_later plan c is = record {
+    order = is.order;
+    gives = is.gives;
+    counts = λ op n. subst (CountsBy (any_failed c op n) (before.count op n)) (sym (counts op n)) (is.counts op n);
+    gave = λ n. gave n ∙ is.gave n;
+    known = subst (λ names. SameNames names _) (sym known) is.known;
+  }
+
+  stop_later : (k : Command) (c : Course) (status : Status) → AfterStop k c before between status →
+      AfterStop k c before after status
+  stop_later k c status stop = record {
+    earlier = stop.earlier;
+    last = stop.last;
+    opened = stop.opened;
+    used = stop.used;
+    fine = stop.fine;
+    fault = stop.fault;
+    ends = stop.ends;
+    files = subst (λ now. WhereTold before.files now (FilesMade stop.earlier)) (sym files) stop.files;
+  }
+
+  tasks_later : (k : Command) (c : Course) (status : Status) → AfterTasks k c before between status →
+      AfterTasks k c before after status
+  tasks_later k c status t = record {
+    opened = t.opened;
+    fine = t.fine;
+    used = t.used;
+    fault = t.fault;
+    ends = t.ends;
+    files = subst (λ now. WhereTold before.files now (FilesAfter k c)) (sym files) t.files;
+  }
+
+  memory_later : (k : Command) (c : Course) (status : Status) → AfterMemory k c before between status →
+      AfterMemory k c before after status
+  memory_later k c status m = record {
+    place = m.place;
+    fault = m.fault;
+    ends = m.ends;
+    others = subst (λ now. WhereTold before.files now (OthersAtMemory c m.place)) (sym files) m.others;
+  }
+
+  far_later : (k : Command) (c : Course) (status : Status) → HowFar k c before between status →
+      HowFar k c before after status
+  far_later k c status (Stopped stop) = Stopped (stop_later k c status stop)
+  far_later k c status (Ran t) = Ran (tasks_later k c status t)
+  far_later k c status (OutOfMemory m) = OutOfMemory (memory_later k c status m)
+
+  -- the outcome of a run is the same where only what was said changed after it
+  pub outcome_later : (refused : Fault → Type 0) (asked : Option Command) (status : Status) →
+      IsRefusedOrRun refused asked before between status → IsRefusedOrRun refused asked before after status
+  outcome_later refused None status r = record {
+    fault = r.fault;
+    ends = r.ends;
+    same = record {
+      files = files ∙ r.same.files;
+      counts = λ op n. counts op n ∙ r.same.counts op n;
+      gave = λ n. gave n ∙ r.same.gave n;
+      known = known ∙ r.same.known;
+    };
+  }
+  outcome_later refused (Some k) status run = record {
+    course = run.course;
+    is_course = course_later k.plan run.course run.is_course;
+    how_far = far_later k run.course status run.how_far;
+  }

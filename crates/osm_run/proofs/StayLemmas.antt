@@ -7,6 +7,7 @@ use Rattle.osm_host.specs.Contents.{Files}
 use Rattle.osm_host.specs.Moments.{Moment}
 use Rattle.osm_host.specs.declared.outside.Op.{Op}
 use Rattle.osm_host.specs.declared.outside.Op.TheVariants.{Keep}
+use Rattle.osm_report.specs.declared.fault.Fault.{Fault}
 use Rattle.osm_run.specs.Plan.{Plan, Polygon, Source, Store, Sink, Use, uses, openings, is_polygon, is_source, is_store, is_sink, is_named, is_called, is_sink_named}
 use Rattle.osm_run.specs.Command.{Command}
 use Rattle.osm_run.specs.Course.{Course, entry, entries, any_failed, run_faults, first_fault}
@@ -15,7 +16,6 @@ use Rattle.osm_run.specs.HowFar.{WhereTold, WasOpened, FilesAfter, FilesMade, Ot
 use Rattle.osm_run.specs.Outcome.{IsRun, IsUnchanged, IsRefusedOrRun}
 use Rattle.osm_run.specs.Codes.{code_of}
 use Rattle.osm_run.specs.Headline.{OthersStay, SameFiles, TellsReader}
-use Rattle.osm_run.specs.declared.status.Fault.{Fault}
 use Rattle.osm_run.specs.declared.status.Status.{Status}
 use Rattle.osm_run.proofs.EachLemmas.{all_more, all_both, all_every, all_left, all_right, all_append, any_none, none_any, filter_each, flat_map_all}
 use Rattle.osm_run.proofs.PlanLemmas.{all_uses, all_openings}

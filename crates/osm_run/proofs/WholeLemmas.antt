@@ -10,6 +10,10 @@ use Rattle.osm_entity.specs.declared.verdict.Spot.{Spot}
 use Rattle.osm_host.specs.Contents.{Files}
 use Rattle.osm_host.specs.declared.outside.Op.{Op}
 use Rattle.osm_host.specs.declared.outside.Op.TheVariants.{Pull, Put, Keep as KeepOp}
+use Rattle.osm_report.specs.declared.fault.Fault.{Fault}
+use Rattle.osm_report.specs.declared.fault.Fault.TheVariants.{TooLong, Device, Input}
+use Rattle.osm_report.specs.declared.fault.DeviceCall.{DeviceCall}
+use Rattle.osm_report.specs.declared.fault.DeviceCall.TheVariants.{Read, Write, Keep, Spill}
 use Rattle.osm_run.specs.Plan.{Polygon, Source, Store, Sink, Use}
 use Rattle.osm_run.specs.Command.{Command}
 use Rattle.osm_run.specs.Course.{Course, source_limit, meaning_of, call_fault, wrong_fault, opening_faults, file_faults, keep_faults}
@@ -17,10 +21,6 @@ use Rattle.osm_run.specs.OnHost.{IsAtRest, IsReadFrom, GivesFile}
 use Rattle.osm_run.specs.HowFar.{HowRead, ReachedEnd, PassedLimit, PullFailed, WasWrong, WasUsed}
 use Rattle.osm_run.specs.Lawful.{GoesOnAlike}
 use Rattle.osm_run.specs.Headline.{content, IsWholeFile, IsWholeCourse, IsUnspilled}
-use Rattle.osm_run.specs.declared.status.Fault.{Fault}
-use Rattle.osm_run.specs.declared.status.Fault.TheVariants.{TooLong, Device, Input}
-use Rattle.osm_run.specs.declared.status.DeviceCall.{DeviceCall}
-use Rattle.osm_run.specs.declared.status.DeviceCall.TheVariants.{Read, Write, Keep, Spill}
 use Rattle.osm_run.proofs.CleanLemmas.{no_bool, polygon_ended}
 use Rattle.osm_run.proofs.CountedLemmas.{not_true, IsUnfailed}
 use Rattle.osm_run.proofs.SameFirstLemmas.{SameFirst, same_none, same_one}

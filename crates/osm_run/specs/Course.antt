@@ -6,12 +6,12 @@ use Rattle.std.specs.Str.{bytes_eq}
 use Rattle.osm_entity.specs.Meaning.{Finish, Wrong, Meaning}
 use Rattle.osm_host.specs.declared.outside.Op.{Op}
 use Rattle.osm_host.specs.declared.outside.Op.TheVariants.{Open as OpenOp, Make, Put, Keep as KeepOp}
+use Rattle.osm_report.specs.declared.fault.Fault.{Fault}
+use Rattle.osm_report.specs.declared.fault.Fault.TheVariants.{Clean, Input, TooLong, Device}
+use Rattle.osm_report.specs.declared.fault.DeviceCall.{DeviceCall}
+use Rattle.osm_report.specs.declared.fault.DeviceCall.TheVariants.{Open, Read, Write, Keep, Spill}
 use Rattle.osm_run.specs.Plan.{File, Polygon, Source, Store, Sink, Plan, Use, numbered, uses, is_named, is_called, is_store}
 use Rattle.osm_run.specs.Command.{Command}
-use Rattle.osm_run.specs.declared.status.Fault.{Fault}
-use Rattle.osm_run.specs.declared.status.Fault.TheVariants.{Clean, Input, TooLong, Device}
-use Rattle.osm_run.specs.declared.status.DeviceCall.{DeviceCall}
-use Rattle.osm_run.specs.declared.status.DeviceCall.TheVariants.{Open, Read, Write, Keep, Spill}
 use Rattle.osm_run.specs.declared.status.SourceEnd.{SourceEnd}
 
 -- how many bytes of a source count

@@ -7,10 +7,10 @@ use Rattle.osm_entity.specs.declared.verdict.Verdict.{Verdict}
 use Rattle.osm_entity.specs.declared.verdict.Verdict.TheVariants.{Input as WrongInput, TooLong as TooMuch, Read as NotRead}
 use Rattle.osm_host.specs.declared.outside.HostError.{HostError}
 use Rattle.osm_host.specs.declared.outside.HostError.TheVariants.{Failed, Memory as HostMemory}
+use Rattle.osm_report.specs.declared.fault.Fault.{Fault}
+use Rattle.osm_report.specs.declared.fault.Fault.TheVariants.{Clean, Input, TooLong, Device, Memory}
+use Rattle.osm_report.specs.declared.fault.DeviceCall.TheVariants.{Open, Read, Write, Keep}
 use Rattle.osm_run.specs.declared.copying.Ran.{Ran}
-use Rattle.osm_run.specs.declared.status.Fault.{Fault}
-use Rattle.osm_run.specs.declared.status.Fault.TheVariants.{Clean, Input, TooLong, Device, Memory}
-use Rattle.osm_run.specs.declared.status.DeviceCall.TheVariants.{Open, Read, Write, Keep}
 use Rattle.osm_run.specs.declared.status.SourceEnd.{SourceEnd}
 
 -- the fault of a file that was not opened

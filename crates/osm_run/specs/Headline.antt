@@ -11,13 +11,13 @@ use Rattle.osm_host.specs.Counts.{Rose}
 use Rattle.osm_host.specs.Moments.{Moment}
 use Rattle.osm_host.specs.declared.outside.Op.{Op}
 use Rattle.osm_host.specs.declared.outside.Op.TheVariants.{Open, Put, Keep}
+use Rattle.osm_report.specs.declared.fault.Fault.{Fault}
+use Rattle.osm_report.specs.declared.fault.Fault.TheVariants.{Input, TooLong}
 use Rattle.osm_run.specs.Plan.{Plan, Polygon, Source, Store, Sink, Use, uses, is_sink_named}
 use Rattle.osm_run.specs.Command.{Command}
 use Rattle.osm_run.specs.Course.{Course, source_limit, polygon_limit, meaning_of, run_faults, first_fault, is_spilled}
 use Rattle.osm_run.specs.HowFar.{WhereTold, HowFar, Ran}
 use Rattle.osm_run.specs.Outcome.{IsRun}
-use Rattle.osm_run.specs.declared.status.Fault.{Fault}
-use Rattle.osm_run.specs.declared.status.Fault.TheVariants.{Input, TooLong}
 use Rattle.osm_run.specs.declared.status.SourceEnd.{SourceEnd}
 use Rattle.osm_run.specs.declared.status.Status.{Status}
 

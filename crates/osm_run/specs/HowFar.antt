@@ -10,12 +10,12 @@ use Rattle.osm_entity.specs.declared.verdict.Spot.{Spot}
 use Rattle.osm_host.specs.Contents.{Files}
 use Rattle.osm_host.specs.Moments.{Moment}
 use Rattle.osm_host.specs.declared.outside.Op.TheVariants.{Open, Pull, Put, Keep}
+use Rattle.osm_report.specs.declared.fault.Fault.{Fault}
+use Rattle.osm_report.specs.declared.fault.Fault.TheVariants.{Memory}
 use Rattle.osm_run.specs.Plan.{Polygon, Source, Store, Sink, Use, uses, openings, is_sink, is_sink_named}
 use Rattle.osm_run.specs.Command.{Command}
 use Rattle.osm_run.specs.Course.{Course, source_limit, polygon_limit, meaning_of, opening_faults, first_fault, run_faults, entries, is_cut_short}
 use Rattle.osm_run.specs.OnHost.{IsAtRest}
-use Rattle.osm_run.specs.declared.status.Fault.{Fault}
-use Rattle.osm_run.specs.declared.status.Fault.TheVariants.{Memory}
 use Rattle.osm_run.specs.declared.status.Status.{Status}
 
 -- told files stay told, and then this holds of them

@@ -1,3 +1,4 @@
+pub mod Asked
 pub mod Causes
 pub mod Codes
 pub mod Command
@@ -14,4 +15,3 @@ pub mod Promises
 pub mod Pulling
 pub mod Reading
 pub mod Tasks
-pub mod Words

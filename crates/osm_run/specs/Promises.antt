@@ -8,10 +8,10 @@ use Rattle.osm_host.specs.Contents.{Files}
 use Rattle.osm_host.specs.Moments.{Moment}
 use Rattle.osm_opl_line.specs.Reading.{opl_reading}
 use Rattle.osm_opl_line.specs.Writing.{opl_text}
+use Rattle.osm_report.specs.declared.fault.Fault.{Fault}
+use Rattle.osm_report.specs.declared.fault.Fault.TheVariants.{Clean, Input, TooLong}
 use Rattle.osm_run.specs.Copying.{copy_command, command_of, IsCopyRun}
 use Rattle.osm_run.specs.Course.{source_limit}
-use Rattle.osm_run.specs.declared.status.Fault.{Fault}
-use Rattle.osm_run.specs.declared.status.Fault.TheVariants.{Clean, Input, TooLong}
 use Rattle.osm_run.specs.declared.status.SourceEnd.{SourceEnd}
 use Rattle.osm_run.specs.declared.status.Status.{Status}
 

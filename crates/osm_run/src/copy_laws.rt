@@ -1,20 +1,26 @@
 //! Laws over the run of the one command that is built, a copy, in the words of its user.
-ghost use Rattle.std.specs.Prelude.{◌≡◌, ◌≢◌, ◌↔◌, ◌∷◌, List, ℕ, [], None, true};
+ghost use Rattle.std.specs.Prelude.{◌≡◌, ◌≢◌, ◌↔◌, ◌⊎◌, ◌∷◌, List, ℕ, [], None, Ok, Err, true};
 ghost use Rattle.std.specs.FinMap as finite;
 ghost use Rattle.std.specs.List.{AllByRecursion};
+ghost use Rattle.osm_circle.specs.Circles.{IsBareCircle};
+ghost use Rattle.osm_circle.specs.declared.circle.Sense.{Sense};
+ghost use Rattle.osm_graph.specs.Graphs.{GraphValue};
 ghost use Rattle.osm_host.specs.Counts.{Rose};
 ghost use Rattle.osm_host.specs.Moments.{Moment};
 ghost use Rattle.osm_host.specs.declared.outside.Op.{Op};
 ghost use Rattle.osm_host.specs.declared.outside.Op.TheVariants.{Put, Keep};
+ghost use Rattle.osm_report.specs.declared.fault.DeviceCall.TheVariants.{Open};
+ghost use Rattle.osm_report.specs.Lines.{fault_text};
+ghost use Rattle.osm_report.specs.declared.fault.Fault.{Fault};
+ghost use Rattle.osm_report.specs.declared.fault.Fault.TheVariants.{Buffering, Device, NotBuilt};
+ghost use Rattle.osm_run.specs.Asked.{graph_asked};
 ghost use Rattle.osm_run.specs.Causes.{HasCauses};
-ghost use Rattle.osm_run.specs.Copying.{IsCopyRun, command_of, copy_command, line_of};
+ghost use Rattle.osm_run.specs.Copying.{IsCopyRun, IsNotBuilt, command_of, copy_command};
 ghost use Rattle.osm_run.specs.Headline.{NoneRose, SameFiles};
 ghost use Rattle.osm_run.specs.HowFar.{WhereTold};
 ghost use Rattle.osm_run.specs.Lawful.{IsLawful};
 ghost use Rattle.osm_run.specs.Outcome.{IsRun, IsSaid, IsUnchanged};
 ghost use Rattle.osm_run.specs.Promises.{HoldsLinesRead, HoldsPrefixRead, IsCalmCopy, IsCopyOf, IsWholeCopy};
-ghost use Rattle.osm_run.specs.declared.status.DeviceCall.TheVariants.{Open};
-ghost use Rattle.osm_run.specs.declared.status.Fault.TheVariants.{Device, NotBuilt};
 ghost use Rattle.osm_run.specs.declared.status.SourceEnd.{SourceEnd};
 ghost use Rattle.osm_run.specs.declared.status.Status.{Status};
 
@@ -24,14 +30,26 @@ pub fn copies_are_lawful()
     ensures { (from to : List ℕ) → IsLawful (copy_command from to) }
 {}
 
-/// Words are refused as not built exactly where they ask for no copy, at task 0; then nothing
-/// changed.
+/// Words are refused rightly, where memory was there: with their first refusal; where nothing of
+/// them is refused and they ask for no copy, with status 3 exactly where their pipes have a bare
+/// circle, which the fault then is, and else as not built, at task 0. Then nothing changed.
 pub fn words_are_refused_rightly()
-    ensures exactly { (words : List (List ℕ)) (before after : Moment) (status : Status) →
-        IsCopyRun words before after status → (task : ℕ) →
-        (status.fault ≡ NotBuilt task) ↔ ((command_of words ≡ None) × (task ≡ 0)) }
+    ensures first { (words : List (List ℕ)) (before after : Moment) (status : Status) →
+        IsCopyRun words before after status → status.code ≢ 6 → (refusal : Fault) →
+        graph_asked words ≡ Err refusal → status.fault ≡ refusal }
+    ensures circle { (words : List (List ℕ)) (before after : Moment) (status : Status) →
+        IsCopyRun words before after status → status.code ≢ 6 → (graph : GraphValue) →
+        graph_asked words ≡ Ok graph → command_of words ≡ None →
+        status.code ≡ 3 ↔ ((circle : List Sense) × IsBareCircle graph.pipes circle) }
+    ensures shown { (words : List (List ℕ)) (before after : Moment) (status : Status) →
+        IsCopyRun words before after status → (circle : List Sense) →
+        status.fault ≡ Buffering circle → (graph : GraphValue) ×
+        (graph_asked words ≡ Ok graph) × IsBareCircle graph.pipes circle }
+    ensures unbuilt { (words : List (List ℕ)) (before after : Moment) (status : Status) →
+        IsCopyRun words before after status → status.code ≢ 6 → (task : ℕ) →
+        status.fault ≡ NotBuilt task ↔ (IsNotBuilt words × (task ≡ 0)) }
     ensures same { (words : List (List ℕ)) (before after : Moment) (status : Status) →
-        IsCopyRun words before after status → status.code ≡ 2 →
+        IsCopyRun words before after status → (status.code ≡ 2) ⊎ (status.code ≡ 3) →
         (status.ends ≡ []) × IsUnchanged before after }
 {}
 
@@ -79,7 +97,7 @@ pub fn copies_keep_the_headline()
         (run : IsRun (copy_command from to) before after status) ×
         HasCauses (copy_command from to) run.course before after status }
     ensures said { (words : List (List ℕ)) (before after : Moment) (status : Status) →
-        IsCopyRun words before after status → IsSaid (line_of status.fault) before after }
+        IsCopyRun words before after status → IsSaid (fault_text status.fault) before after }
 
     // Where no call failed and memory was there.
     ensures calm { (from to : List ℕ) (before after : Moment) (status : Status) →

@@ -11,9 +11,10 @@ ghost use Rattle.osm_run.specs.Codes.{code_of};
 
 use crate::putting::put_items;
 use crate::reading::read_source;
-use crate::status::{DeviceCall, Ends, Fault, SourceEnd, Status};
+use crate::status::{Ends, SourceEnd, Status};
 use osm_entity::{NoMemory, Text, Verdict};
 use osm_host::{Host, HostError, Sink, Source};
+use osm_report::{DeviceCall, Fault};
 use std::alloc::Global;
 
 /// How the tasks of a copy went.
@@ -72,18 +73,18 @@ pub fn copy_file<H: Host>(alloc: Global, from: &Text, to: &Text, host: &mut H) -
 {
     let mut source = match host.open_source(from) {
         Ok(source) => source,
-        Err(refusal) => return not_opened(0, refusal).status(Ends::new(alloc)),
+        Err(refusal) => return Status::of(not_opened(0, refusal), Ends::new(alloc)),
     };
     let mut ends = Ends::new(alloc);
     if ends.push(SourceEnd::at_rest(0)).is_err() {
         host.close_source(from, source);
-        return Fault::Memory.status(ends);
+        return Status::of(Fault::Memory, ends);
     }
     let mut sink = match host.open_sink(to) {
         Ok(sink) => sink,
         Err(refusal) => {
             host.close_source(from, source);
-            return not_opened(1, refusal).status(ends);
+            return Status::of(not_opened(1, refusal), ends);
         }
     };
     let mut given = 0;
@@ -91,7 +92,7 @@ pub fn copy_file<H: Host>(alloc: Global, from: &Text, to: &Text, host: &mut H) -
     host.close_source(from, source);
     let kept = host.keep(to, sink);
     ends.set(0, source_end(given, ran));
-    fault_after(ran, kept).status(ends)
+    Status::of(fault_after(ran, kept), ends)
 }
 
 // The fault of a file that was not opened.

@@ -3,6 +3,8 @@ ghost use Rattle.std.specs.Prelude.{◌≡◌, ◌⊎◌, ⊤, List, ℕ, [], Op
 ghost use Rattle.std.specs.List.{AllByRecursion, list_any};
 ghost use Rattle.osm_host.specs.Moments.{Moment};
 ghost use Rattle.osm_host.specs.declared.outside.Op.{Op};
+ghost use Rattle.osm_report.specs.declared.fault.Fault.{Fault};
+ghost use Rattle.osm_report.specs.declared.fault.Fault.TheVariants.{Clean};
 ghost use Rattle.osm_run.specs.Causes.{CauseOf, UncleanBy};
 ghost use Rattle.osm_run.specs.Codes.{code_of};
 ghost use Rattle.osm_run.specs.Command.{Command};
@@ -14,8 +16,6 @@ ghost use Rattle.osm_run.specs.Lawful.{EndsWhole, IsLawful};
 ghost use Rattle.osm_run.specs.OnHost.{IsCourse};
 ghost use Rattle.osm_run.specs.Outcome.{IsRefusedOrRun, IsSaid, IsUnchanged};
 ghost use Rattle.osm_run.specs.Plan.{is_named, numbered, uses};
-ghost use Rattle.osm_run.specs.declared.status.Fault.{Fault};
-ghost use Rattle.osm_run.specs.declared.status.Fault.TheVariants.{Clean};
 ghost use Rattle.osm_run.specs.declared.status.Status.{Status};
 
 /// After status 0 every entry is clean, every task of a lawful command ended whole, every count is

@@ -4,6 +4,7 @@
 //! the host after it and the status: the outcome of a run.
 #![tactic(auto)]
 
+mod asking;
 mod copy_laws;
 mod copying;
 mod laws;
@@ -11,7 +12,6 @@ mod putting;
 mod reading;
 mod running;
 mod status;
-mod words;
 
 pub use copy_laws::{copies_are_lawful, copies_keep_the_headline, words_are_refused_rightly};
 pub use laws::{
@@ -19,4 +19,4 @@ pub use laws::{
     faults_have_causes, others_stay, refusals_change_nothing, writers_hold,
 };
 pub use running::run_alone;
-pub use status::{DeviceCall, Ends, Fault, SourceEnd, Status};
+pub use status::{Ends, SourceEnd, Status};

@@ -1,10 +1,11 @@
-//! Runs on hosts in memory, one to a row: what `b` holds, the fault, and the entry of the reader.
+//! Runs on hosts in memory, one to a row: what `b` holds, what is said, and the entry of the reader.
 ghost use Rattle.std.specs.Prelude.{◌≡◌, ◌≢◌, ◌<◌};
 ghost use Rattle.std.specs.List.{AllPairs};
 
-use osm_entity::{Bytes, Cause, Sequence, Spot, Steps, Text};
+use osm_entity::{Bytes, Sequence, Steps, Text};
 use osm_host::{FailAt, Fails, FileHeld, Files, Host, MemoryHost, Op};
-use osm_run::{DeviceCall, Fault, SourceEnd, Status, run_alone};
+use osm_run::{SourceEnd, Status, run_alone};
+use osm_text::first_part;
 use std::alloc::Global;
 use std::marker::Brand;
 use std::process::Abort;
@@ -13,133 +14,185 @@ use std::sync::ledger::{Blank, Ledger};
 /// The words of a copy from `a` to `b`.
 const COPY: [&[u8]; 4] = [b"--read-opl", b"file=a", b"--write-opl", b"file=b"];
 
-/// Words that ask for no command.
+/// Words that ask for a command that is not built.
 const OTHER: [&[u8]; 4] = [b"--read-pbf", b"file=a", b"--write-opl", b"file=b"];
 
 /// What `b` holds before each run.
 const BEFORE: &[u8] = b"as before";
 
-/// A file: a part of it, and how often it stands there; at 0 there is no file.
-type Content = (&'static [u8], u32);
+/// How many rows there are.
+const COUNT: u32 = 28;
 
-/// A call that fails: on which file, of which kind, and the number of the call; at 0 none fails.
-type Failing = (&'static [u8], Op, u64);
+/// A row for each run, of two lines. The columns of the first: what it shows; its words; the pieces of its pulls; the
+/// call that fails, by its file, its kind and its number, at 0 none; and the file `a`, how often a part of it stands
+/// there, at 0 no file, and the part. Those of the second: the exit status; how many bytes the reader's source gave, and
+/// whether their end came; what is said behind the program's name; and what `b` holds. A `/` is a newline.
+const ROWS: &[u8] = b"\
+an empty file is copied|copy|both|||0|1||
+0|0|ended|||
+a node is copied|copy|both|||0|1|n1 x1.5 y2/|
+0|11|ended||n1 v0 dV c0 t i0 u T x1.5 y2/|
+digits alone are degrees|copy|both|||0|1|n1 x1 y1/|
+0|9|ended||n1 v0 dV c0 t i0 u T x1 y1/|
+a line without a newline is read|copy|both|||0|1|n1 x1.5 y2|
+0|10|ended||n1 v0 dV c0 t i0 u T x1.5 y2/|
+texts are unescaped and escaped|copy|both|||0|1|n7 uA%20%b Tname=50%25%%2c%%40%\xc3\xa9 x0 y-0.5/|
+0|43|ended||n7 v0 dV c0 t i0 uA%20%b Tname=50%25%%2c%%40%\xc3\xa9 x0 y-0.5/|
+a way and a relation are copied|copy|both|||0|1|w5/r6 Mn1@,w5@x%20%y/|
+0|21|ended||w5 v0 dV c0 t i0 u T N/r6 v0 dV c0 t i0 u T Mn1@,w5@x%20%y/|
+an id is past 64 bits|copy|both|||0|1|n-9223372036854775808 x180 y-90/n9223372036854775808 x0 y0/|
+4|59||task 0 line 2: bad number|n-9223372036854775808 v0 dV c0 t i0 u T x180 y-90/|
+the second pull fails|copy|4096|a|pull|2|1|n1 x1.5 y2|
+5|10||task 0: read failed||
+the eleventh pull fails|copy|1|a|pull|11|1|n1 x1.5 y2|
+5|10||task 0: read failed||
+blanks and comments are skipped|copy|both|||0|1|# nodes// \t/n01 x1.50 y+2/|
+0|26|ended||n1 v0 dV c0 t i0 u T x1.5 y2/|
+a second line is bad|copy|both|||0|1|n1 x1.5 y2/q5/|
+4|14||task 0 line 2: bad field|n1 v0 dV c0 t i0 u T x1.5 y2/|
+x twice|copy|both|||0|1|n1 x0 y0 x1/|
+4|12||task 0 line 1: field repeated||
+no such letter|copy|both|||0|1|n1 v0 q/|
+4|8||task 0 line 1: bad field||
+deleted|copy|both|||0|1|n1 dD x0 y0/|
+4|12||task 0 line 1: deleted object||
+a longitude past 180|copy|both|||0|1|n1 x181 y0/|
+4|11||task 0 line 1: bad coordinate||
+a second of 60|copy|both|||0|1|n1 t2010-01-01T00:00:60Z x0 y0/|
+4|31||task 0 line 1: bad time||
+no character|copy|both|||0|1|n1 u%110000% x0 y0/|
+4|19||task 0 line 1: bad escape||
+half a place|copy|both|||0|1|n1 x0/|
+4|6||task 0 line 1: no place||
+a tag without a key|copy|both|||0|1|n1 T=b x0 y0/|
+4|13||task 0 line 1: bad field||
+no UTF-8|copy|both|||0|1|n1 u\xff x0 y0/|
+4|12||task 0 line 1: bad text||
+a line of 16,777,217 bytes|copy|both|||0|16777217|#|
+4|16777217||task 0 line 1: line too long||
+a bad line is before a failed pull|copy|4096|a|pull|2|1|x/n1 x0|
+4|7||task 0 line 1: bad field||
+there is no file to read|copy|both|||0|0||
+5|none||task 0: open failed|as before|
+no file can be made|copy|both|b|make|1|1|n1 x1.5 y2/|
+5|0||task 1: open failed|as before|
+the first put fails|copy|both|b|put|1|1|n1 x1.5 y2/|
+5|11|ended|task 1: write failed|n1 v0 dV c0 t |
+the keep fails|copy|both|b|keep|1|1|n1 x1.5 y2/|
+5|11|ended|task 1: keep failed||
+spaces stand at both ends|copy|both|||0|1| w5  Nn1,n2 |
+0|12|ended||w5 v0 dV c0 t i0 u T Nn1,n2/|
+other words are no copy|other|both|||0|1|n1 x1.5 y2/|
+2|none||task 0: not built|as before|
+";
 
-/// One run: what it shows, its words, the file `a`, the pieces of its pulls, the call that fails;
-/// then what `b` holds, the fault, and the reader's entry: how many bytes its source gave, and
-/// whether their end came.
-type Row = (
-    &'static str,
-    [&'static [u8]; 4],
-    Content,
-    (u32, u32),
-    Failing,
-    &'static [u8],
-    Fault,
-    Option<(u64, bool)>,
-);
-
-/// Pulls of the whole file at once, and of one byte each.
-const BOTH: (u32, u32) = (4096, 1);
-
-/// No call fails.
-const NONE: Failing = (b"", Op::Open, 0);
-
-/// A node, with and without its newline, and its copy.
-const NODE: Content = (b"n1 x1.5 y2\n", 1);
-
-const UNENDED: Content = (b"n1 x1.5 y2", 1);
-
-const LINE: &[u8] = b"n1 v0 dV c0 t i0 u T x1.5 y2\n";
-
-/// A node with escapes in its texts, and its copy.
-const ESCAPED: Content = (b"n7 uA%20%b Tname=50%25%%2c%%40%\xc3\xa9 x0 y-0.5\n", 1);
-
-const ESCAPED_COPY: &[u8] = b"n7 v0 dV c0 t i0 uA%20%b Tname=50%25%%2c%%40%\xc3\xa9 x0 y-0.5\n";
-
-/// The copies of a way and a relation.
-const PARTS_COPY: &[u8] = b"w5 v0 dV c0 t i0 u T N\nr6 v0 dV c0 t i0 u T Mn1@,w5@x%20%y\n";
-
-const REFS_COPY: &[u8] = b"w5 v0 dV c0 t i0 u T Nn1,n2\n";
-
-fn device(task: u32, call: DeviceCall) -> Fault {
-    Fault::Device { task, call }
+/// A row by its columns.
+#[derive(Drop)]
+struct Row<'a> {
+    shows: &'a [u8],
+    words: [&'static [u8]; 4],
+    pieces: &'static [u32],
+    file: &'a [u8],
+    fails: Op,
+    nth: u64,
+    times: u64,
+    part: &'a [u8],
+    code: u64,
+    given: &'a [u8],
+    has_ended: bool,
+    says: &'a [u8],
+    holds: &'a [u8],
 }
 
-fn bad(cause: Cause, line: u64) -> Fault {
-    Fault::Input {
-        task: 0,
-        cause,
-        spot: Spot::Line(line),
+/// The bytes before the first of a sign; the rest is what is behind it.
+fn cut<'a>(rest: &mut &'a [u8], sign: u8) -> &'a [u8] {
+    match first_part(rest, sign) {
+        Some((first, more)) => {
+            *rest = more;
+            first
+        }
+        None => rest,
     }
 }
 
-#[rattlefmt::skip]
-fn rows() -> [Row; 28] {
-    let open_a = device(0, DeviceCall::Open);
-    let open_b = device(1, DeviceCall::Open);
-    let read = device(0, DeviceCall::Read);
-    let write = device(1, DeviceCall::Write);
-    let keep = device(1, DeviceCall::Keep);
-    let clean = Fault::Clean;
-    let digits = b"n1 v0 dV c0 t i0 u T x1 y1\n";
-    let half = b"n1 v0 dV c0 t ";
-    [
-        ("an empty file is copied", COPY, (b"", 1), BOTH, NONE, b"", clean, Some((0, true))),
-        ("a node is copied", COPY, NODE, BOTH, NONE, LINE, clean, Some((11, true))),
-        ("digits alone are degrees", COPY, (b"n1 x1 y1\n", 1), BOTH, NONE, digits, clean,
-            Some((9, true))),
-        ("a line without a newline is read", COPY, UNENDED, BOTH, NONE, LINE, clean,
-            Some((10, true))),
-        ("texts are unescaped and escaped", COPY, ESCAPED, BOTH, NONE, ESCAPED_COPY, clean,
-            Some((43, true))),
-        ("a way and a relation are copied", COPY, (b"w5\nr6 Mn1@,w5@x%20%y\n", 1), BOTH, NONE,
-            PARTS_COPY, clean, Some((21, true))),
-        ("an id is past 64 bits", COPY,
-            (b"n-9223372036854775808 x180 y-90\nn9223372036854775808 x0 y0\n", 1), BOTH, NONE,
-            b"n-9223372036854775808 v0 dV c0 t i0 u T x180 y-90\n", bad(Cause::BadNumber, 2),
-            Some((59, false))),
-        ("the second pull fails", COPY, UNENDED, (4096, 4096), (b"a", Op::Pull, 2), b"", read,
-            Some((10, false))),
-        ("the eleventh pull fails", COPY, UNENDED, (1, 1), (b"a", Op::Pull, 11), b"", read,
-            Some((10, false))),
-        ("blanks and comments are skipped", COPY, (b"# nodes\n\n \t\nn01 x1.50 y+2\n", 1), BOTH,
-            NONE, LINE, clean, Some((26, true))),
-        ("a second line is bad", COPY, (b"n1 x1.5 y2\nq5\n", 1), BOTH, NONE, LINE,
-            bad(Cause::BadField, 2), Some((14, false))),
-        ("x twice", COPY, (b"n1 x0 y0 x1\n", 1), BOTH, NONE, b"", bad(Cause::TwiceField, 1),
-            Some((12, false))),
-        ("no such letter", COPY, (b"n1 v0 q\n", 1), BOTH, NONE, b"", bad(Cause::BadField, 1),
-            Some((8, false))),
-        ("deleted", COPY, (b"n1 dD x0 y0\n", 1), BOTH, NONE, b"", bad(Cause::Deleted, 1),
-            Some((12, false))),
-        ("a longitude past 180", COPY, (b"n1 x181 y0\n", 1), BOTH, NONE, b"",
-            bad(Cause::BadCoordinate, 1), Some((11, false))),
-        ("a second of 60", COPY, (b"n1 t2010-01-01T00:00:60Z x0 y0\n", 1), BOTH, NONE, b"",
-            bad(Cause::BadTime, 1), Some((31, false))),
-        ("no character", COPY, (b"n1 u%110000% x0 y0\n", 1), BOTH, NONE, b"",
-            bad(Cause::BadEscape, 1), Some((19, false))),
-        ("half a place", COPY, (b"n1 x0\n", 1), BOTH, NONE, b"", bad(Cause::NoPlace, 1),
-            Some((6, false))),
-        ("a tag without a key", COPY, (b"n1 T=b x0 y0\n", 1), BOTH, NONE, b"",
-            bad(Cause::BadField, 1), Some((13, false))),
-        ("no UTF-8", COPY, (b"n1 u\xff x0 y0\n", 1), BOTH, NONE, b"", bad(Cause::BadText, 1),
-            Some((12, false))),
-        ("a line of 16,777,217 bytes", COPY, (b"#", 16_777_217), BOTH, NONE, b"",
-            bad(Cause::LineTooLong, 1), Some((16_777_217, false))),
-        ("a bad line is before a failed pull", COPY, (b"x\nn1 x0", 1), (4096, 4096),
-            (b"a", Op::Pull, 2), b"", bad(Cause::BadField, 1), Some((7, false))),
-        ("there is no file to read", COPY, (b"", 0), BOTH, NONE, BEFORE, open_a, None),
-        ("no file can be made", COPY, NODE, BOTH, (b"b", Op::Make, 1), BEFORE, open_b,
-            Some((0, false))),
-        ("the first put fails", COPY, NODE, BOTH, (b"b", Op::Put, 1), half, write,
-            Some((11, true))),
-        ("the keep fails", COPY, NODE, BOTH, (b"b", Op::Keep, 1), b"", keep, Some((11, true))),
-        ("spaces stand at both ends", COPY, (b" w5  Nn1,n2 ", 1), BOTH, NONE, REFS_COPY, clean,
-            Some((12, true))),
-        ("other words are no command", OTHER, NODE, BOTH, NONE, BEFORE, Fault::NotBuilt { task: 0 },
-            None),
-    ]
+fn column<'a>(rest: &mut &'a [u8]) -> &'a [u8] {
+    cut(rest, b'|')
+}
+
+fn number(digits: &[u8]) -> u64 {
+    let mut number = 0_u64;
+    for digit in digits {
+        number = number
+            .saturating_mul(10)
+            .saturating_add((*digit % 16) as u64);
+    }
+    number
+}
+
+fn words_of(name: &[u8]) -> [&'static [u8]; 4] {
+    if name == b"other".as_slice() {
+        OTHER
+    } else {
+        COPY
+    }
+}
+
+fn pieces_of(name: &[u8]) -> &'static [u32] {
+    if name == b"both".as_slice() {
+        &[4096, 1]
+    } else if name == b"1".as_slice() {
+        &[1]
+    } else {
+        &[4096]
+    }
+}
+
+fn op_of(name: &[u8]) -> Op {
+    if name == b"pull".as_slice() {
+        Op::Pull
+    } else if name == b"make".as_slice() {
+        Op::Make
+    } else if name == b"put".as_slice() {
+        Op::Put
+    } else if name == b"keep".as_slice() {
+        Op::Keep
+    } else {
+        Op::Open
+    }
+}
+
+/// A row of its two lines.
+fn row_of<'a>(first: &'a [u8], second: &'a [u8]) -> Row<'a> {
+    let (mut first, mut second) = (first, second);
+    Row {
+        shows: column(&mut first),
+        words: words_of(column(&mut first)),
+        pieces: pieces_of(column(&mut first)),
+        file: column(&mut first),
+        fails: op_of(column(&mut first)),
+        nth: number(column(&mut first)),
+        times: number(column(&mut first)),
+        part: column(&mut first),
+        code: number(column(&mut second)),
+        given: column(&mut second),
+        has_ended: column(&mut second) == b"ended".as_slice(),
+        says: column(&mut second),
+        holds: column(&mut second),
+    }
+}
+
+/// Adds bytes, of which a `/` is a newline.
+fn add<R: Abort>(rt: &R, bytes: &mut Bytes, part: &[u8]) {
+    for byte in part {
+        let byte = if *byte == b'/' { b'\n' } else { *byte };
+        bytes.push(byte).expect(rt, "a byte");
+    }
+}
+
+fn bytes_of<R: Abort + AllocGlobal>(rt: &R, part: &[u8]) -> Bytes {
+    let mut bytes = Bytes::new(rt.alloc());
+    add(rt, &mut bytes, part);
+    bytes
 }
 
 fn text<R: Abort + AllocGlobal>(rt: &R, bytes: &[u8]) -> Text
@@ -148,7 +201,7 @@ fn text<R: Abort + AllocGlobal>(rt: &R, bytes: &[u8]) -> Text
     Text::from_bytes(rt.alloc(), bytes).expect(rt, "a text")
 }
 
-fn words_of<R: Abort + AllocGlobal>(rt: &R, words: &[&[u8]]) -> Sequence<Text> {
+fn texts_of<R: Abort + AllocGlobal>(rt: &R, words: &[&[u8]]) -> Sequence<Text> {
     let mut texts = Sequence::new(rt.alloc());
     for word in words {
         texts.push(text(rt, word)).expect(rt, "a word");
@@ -156,37 +209,38 @@ fn words_of<R: Abort + AllocGlobal>(rt: &R, words: &[&[u8]]) -> Sequence<Text> {
     texts
 }
 
-/// A file of a part as often as it stands there.
-fn file_of<R: Abort + AllocGlobal>(rt: &R, name: &[u8], content: Content) -> FileHeld
+/// The file of a name, with a part as often as this.
+fn file_of<R: Abort + AllocGlobal>(rt: &R, name: &[u8], part: &[u8], times: u64) -> FileHeld
     ensures { result.name ≡ name.now }
 {
-    let (part, times) = content;
     let mut bytes = Bytes::new(rt.alloc());
     for _turn in 0..times {
-        bytes.append(part).expect(rt, "a file");
+        add(rt, &mut bytes, part);
     }
     let name = text(rt, name);
     FileHeld { name, bytes }
 }
 
 /// The files `a`, where it is there, and `b` with what it holds before.
-fn files_of<R: Abort + AllocGlobal>(rt: &R, a: Content) -> Files
+fn files_of<R: Abort + AllocGlobal>(rt: &R, row: &Row) -> Files
     ensures { AllPairs (λ f g. f.name ≢ g.name) result }
 {
     let mut files = Files::new(rt.alloc());
     files
-        .push(file_of(rt, b"b", (BEFORE, 1)))
+        .push(file_of(rt, b"b", BEFORE, 1))
         .expect(rt, "a file");
-    if a.1 > 0 {
-        files.push(file_of(rt, b"a", a)).expect(rt, "a file");
+    if row.times > 0 {
+        files
+            .push(file_of(rt, b"a", row.part, row.times))
+            .expect(rt, "a file");
     }
     files
 }
 
-fn fails_of<R: Abort + AllocGlobal>(rt: &R, fails: Failing) -> Fails {
-    let (name, op, nth) = fails;
+fn fails_of<R: Abort + AllocGlobal>(rt: &R, row: &Row) -> Fails {
     let mut all = Fails::new(rt.alloc());
-    let name = text(rt, name);
+    let name = text(rt, row.file);
+    let (op, nth) = (row.fails, row.nth);
     all.push(FailAt { name, op, nth }).expect(rt, "a call");
     all
 }
@@ -210,52 +264,65 @@ fn run_on<H: Host>(alloc: Global, words: &[Text], host: &mut H) -> Status {
     run_counted::<H, Brand>(alloc, words, host, Blank::new(1))
 }
 
-/// What the host holds as `b`.
-fn held(host: &MemoryHost) -> Option<&[u8]> {
+/// Whether `b` of the host holds just these bytes.
+fn is_held(host: &MemoryHost, bytes: &[u8]) -> bool {
     for file in host.files().as_slice() {
         if file.name.as_slice() == b"b".as_slice() {
-            return Some(file.bytes.as_slice());
+            return file.bytes.as_slice() == bytes;
         }
     }
-    None
+    false
 }
 
-/// Whether the reader's entry is this, and there is none where this is.
-fn has_end(status: &Status, end: Option<(u64, bool)>) -> bool {
+/// Whether the run has the row's entry of its reader, or none where the row has none.
+fn has_entry(status: &Status, row: &Row) -> bool {
     let entries = status.ends.as_slice();
-    match end {
-        Some((given, clean)) => entries
-            == [SourceEnd {
-                task: 0,
-                given,
-                clean,
-            }]
-            .as_slice(),
-        None => entries.is_empty(),
+    if row.given == b"none".as_slice() {
+        return entries.is_empty();
     }
+    let entry = SourceEnd {
+        task: 0,
+        given: number(row.given),
+        clean: row.has_ended,
+    };
+    entries == [entry].as_slice()
 }
 
-fn check<R: Abort + AllocGlobal>(rt: &R, row: Row, piece: u32)
+/// Whether the host was told the row's line, or nothing where the row has none or the host is mute.
+fn is_said(said: &[u8], row: &Row, is_mute: bool) -> bool {
+    if is_mute || row.says.is_empty() {
+        return said.is_empty();
+    }
+    said.strip_prefix(b"osm-tasks: ")
+        .and_then(|line| line.strip_suffix(b"\n"))
+        == Some(row.says)
+}
+
+fn check<R: Abort + AllocGlobal>(rt: &R, row: &Row, piece: u32, is_mute: bool)
     requires { 0 < piece }
 {
-    let (says, words, a, _, fails, b, fault, end) = row;
-    let files = files_of(rt, a);
-    let fails = fails_of(rt, fails);
-    let mut host = MemoryHost::new(rt.alloc(), files, piece, fails, true).expect(rt, "a host");
-    let words = words_of(rt, &words);
+    let files = files_of(rt, row);
+    let fails = fails_of(rt, row);
+    let mut host = MemoryHost::new(rt.alloc(), files, piece, fails, is_mute).expect(rt, "a host");
+    let words = texts_of(rt, &row.words);
     let status = run_on(rt.alloc(), words.as_slice(), &mut host);
-    assert_eq!(rt; status.fault, fault, "{says}");
-    let is_right = held(&host) == Some(b)
-        && has_end(&status, end)
-        && host.said().as_slice().is_empty();
-    assert!(rt; is_right, "{says}");
+    let is_right = status.code as u64 == row.code
+        && has_entry(&status, row)
+        && is_said(host.said().as_slice(), row, is_mute)
+        && is_held(&host, bytes_of(rt, row.holds).as_slice());
+    assert!(rt; is_right, "{:?}, in {piece}", row.shows);
 }
 
 #[test]
 fn runs_are_as_their_rows_say(rt: HostRuntime) {
-    for row in rows() {
-        for piece in [row.3.0, row.3.1] {
-            check(&rt, row, piece.max(1));
+    let mut rest = ROWS;
+    for _row in 0..COUNT {
+        let first = cut(&mut rest, b'\n');
+        let row = row_of(first, cut(&mut rest, b'\n'));
+        for piece in row.pieces {
+            let piece = (*piece).max(1);
+            check(&rt, &row, piece, false);
+            check(&rt, &row, piece, true);
         }
     }
 }

@@ -15,8 +15,8 @@ returns-in-Err-clause-run g c =
     (moment g.H.Host.files g.H.Host.said g.H.Host.mute g.H.Host.count g.H.Host.gave g.H.Host.known c.args.host.now)
     (moment g.H.Host.files g.H.Host.said g.H.Host.mute g.H.Host.count g.H.Host.gave g.H.Host.known
     c.open_source.new.self)
-    c.status.result c.in-Err.refusal
-    (c.status.ensures.fault ∙ c.not_opened.ensures) (c.status.ensures.ends
+    c.of.result c.in-Err.refusal
+    (c.of.ensures.fault ∙ c.not_opened.ensures) (c.of.ensures.ends
     ∙ c.new.ensures) c.in-Err.ensures.files c.in-Err.ensures.counts c.in-Err.ensures.gave c.in-Err.ensures.known
 
 pub returns-then-is_err-clause-run : goal.returns-then-is_err-clause-run
@@ -26,9 +26,9 @@ returns-then-is_err-clause-run g c =
     (moment g.H.Host.files g.H.Host.said g.H.Host.mute g.H.Host.count g.H.Host.gave g.H.Host.known
     c.close_source.new.self)
     (g.H.Host.known c.open_source.new.self) c.in-Ok.source
-    c.status-then-is_err.result
-    c.status-then-is_err.ensures.fault
-    (c.status-then-is_err.ensures.ends ∙ at_err c.push.result (sym c.is_err.ensures.value
+    c.of-then-is_err.result
+    c.of-then-is_err.ensures.fault
+    (c.of-then-is_err.ensures.ends ∙ at_err c.push.result (sym c.is_err.ensures.value
     ∙ c.if-is_err.true) c.push.ensures.err ∙ c.new-ends.ensures)
     (c.close_source.ensures.files ∙ c.in-Ok.ensures.files)
     (λ o n. adds_nothing Pull c.args.from.now (g.H.Host.count c.open_source.new.self)
@@ -52,9 +52,9 @@ returns-in-Err-open_sink-clause-run g c =
     c.close_source-in-Err-open_sink.new.self)
     (g.H.Host.count c.open_source.new.self) (g.H.Host.known c.open_source.new.self)
     (g.H.Host.known c.open_sink.new.self)
-    c.in-Ok.source c.status-in-Err-open_sink.result c.in-Err-open_sink.refusal
-    (c.status-in-Err-open_sink.ensures.fault ∙ c.not_opened-in-Err-open_sink.ensures)
-    (c.status-in-Err-open_sink.ensures.ends ∙ at_ok c.push.result (sym c.is_err.ensures.value
+    c.in-Ok.source c.of-in-Err-open_sink.result c.in-Err-open_sink.refusal
+    (c.of-in-Err-open_sink.ensures.fault ∙ c.not_opened-in-Err-open_sink.ensures)
+    (c.of-in-Err-open_sink.ensures.ends ∙ at_ok c.push.result (sym c.is_err.ensures.value
     ∙ c.if-is_err.false) c.push.ensures.ok ∙ ap (λ xs. xs ++ c.at_rest.result ∷ []) c.new-ends.ensures
     ∙ ap (λ e. e ∷ []) c.at_rest.ensures)
     (c.close_source-in-Err-open_sink.ensures.files ∙ c.in-Err-open_sink.ensures.files ∙ c.in-Ok.ensures.files)
@@ -87,7 +87,7 @@ returns-clause-run g c =
     (g.H.Host.count c.open_sink.new.self) (g.H.Host.count c.close_source-2.new.self)
     (g.H.Host.gave c.open_sink.new.self) (g.H.Host.gave c.close_source-2.new.self)
     (g.H.Host.known c.open_source.new.self) (g.H.Host.known c.open_sink.new.self)
-    c.in-Ok.source c.in-Ok-open_sink.sink c.keep-kept.result c.status-2.result
+    c.in-Ok.source c.in-Ok-open_sink.sink c.keep-kept.result c.of-2.result
     (record {
       content = c.in-Ok.ensures.rest;
       fresh = c.in-Ok.ensures.fresh;
@@ -111,8 +111,8 @@ returns-clause-run g c =
       known = c.keep-kept.ensures.known ∙ c.close_source-2.ensures.known;
     })
     c.copy_items-ran.new.given c.copy_items-ran.result c.copy_items-ran.ensures.ran c.copy_items-ran.ensures.err
-    (c.status-2.ensures.fault ∙ c.fault_after.ensures)
-    (c.status-2.ensures.ends ∙ c.set.ensures
+    (c.of-2.ensures.fault ∙ c.fault_after.ensures)
+    (c.of-2.ensures.ends ∙ c.set.ensures
     ∙ ap (λ xs. slice_set xs 0 c.source_end.result) (at_ok c.push.result (sym c.is_err.ensures.value
     ∙ c.if-is_err.false) c.push.ensures.ok ∙ ap (λ xs. xs ++ c.at_rest.result ∷ []) c.new-ends.ensures)
     ∙ ap (λ e. e ∷ []) c.source_end.ensures)

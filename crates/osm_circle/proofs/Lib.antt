@@ -1,0 +1,5 @@
+pub mod Trails
+pub mod WalkLemmas
+pub mod RingLemmas
+pub mod TrailLemmas
+pub mod PruneLemmas

@@ -1,0 +1,10 @@
+pub mod FileLemmas
+pub mod GraphLemmas
+pub mod ListLemmas
+pub mod MatchLemmas
+pub mod PipeLemmas
+pub mod PortLemmas
+pub mod ReaderLemmas
+pub mod StepLemmas
+pub mod StoreLemmas
+pub mod TaskLemmas

@@ -1,0 +1,5 @@
+pub mod Lines
+pub mod Places
+pub mod Printable
+pub mod Refusals
+pub mod Words
