@@ -85,10 +85,6 @@ bytes_given absent number fields = last_entry (λ payload. option_map Some (as_b
 abbrev pub needed : ℕ → List FieldValue → Option ℕ
 needed number fields = number_given None number fields >>= (λ given. given)
 
--- a field that holds bytes and has to be given
-abbrev pub needed_bytes : ℕ → List FieldValue → Option (List ℕ)
-needed_bytes number fields = bytes_given None number fields >>= (λ given. given)
-
 -- a repeated field of numbers: the numbers of all its entries joined, packed or not
 abbrev pub repeated : ℕ → List FieldValue → Option (List ℕ)
 repeated number fields = option_map concat (all_said as_numbers (payloads_of number fields))
