@@ -1,0 +1,4 @@
+pub mod BlobsLemmas
+pub mod FramesLemmas
+pub mod FrontLemmas
+pub mod WrittenLemmas
