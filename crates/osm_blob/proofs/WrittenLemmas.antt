@@ -98,9 +98,14 @@ written_blob-short : (raw : List ℕ) → length raw < raw_limit → length (wri
 written_blob-short raw short =
     let tag = shortest_varint-short 10 (omega arith) in
     let size = shortest_varint-short (length raw) (omega arith) in
-    omega (arith, tag, size, length-append (shortest_varint 10) (shortest_varint (length raw) ++ raw),
-    length-append (shortest_varint (length raw)) raw,
-    length-append (shortest_varint 10 ++ (shortest_varint (length raw) ++ raw)) [])
+    omega (
+      arith,
+      tag,
+      size,
+      length-append (shortest_varint 10) (shortest_varint (length raw) ++ raw),
+      length-append (shortest_varint (length raw)) raw,
+      length-append (shortest_varint 10 ++ (shortest_varint (length raw) ++ raw)) [],
+    )
 
 -- a written blob header is short
 pub written_blob_header-short : (what : What) (size : ℕ) → size < 2 ^ 64 → length (written_blob_header what size) ≤ 49
@@ -108,12 +113,19 @@ written_blob_header-short what size fits =
     let name = shortest_varint (length (type_text what)) ++ type_text what in
     let first = shortest_varint 10 ++ name in
     let second = shortest_varint 24 ++ shortest_varint size in
-    omega (arith, type_text-short what, shortest_varint-short 10 (omega arith), shortest_varint-short 24 (omega arith),
-    shortest_varint-short (length (type_text what)) (omega (arith, type_text-short what)),
-    shortest_varint-short size fits, length-append (shortest_varint 10) name,
-    length-append (shortest_varint (length (type_text what))) (type_text what),
-    length-append (shortest_varint 24) (shortest_varint size), length-append second [],
-    length-append first (second ++ []))
+    omega (
+      arith,
+      type_text-short what,
+      shortest_varint-short 10 (omega arith),
+      shortest_varint-short 24 (omega arith),
+      shortest_varint-short (length (type_text what)) (omega (arith, type_text-short what)),
+      shortest_varint-short size fits,
+      length-append (shortest_varint 10) name,
+      length-append (shortest_varint (length (type_text what))) (type_text what),
+      length-append (shortest_varint 24) (shortest_varint size),
+      length-append second [],
+      length-append first (second ++ []),
+    )
 
 -- a frame at the front of bytes, by what its parts say
 front_frame-framed : (header blob more : List ℕ) (what : What) (front : FrontFrame) → length header < 65536 →
@@ -129,8 +141,13 @@ front_frame-framed header blob more what front few large said is =
     let parted : bytes ≡ (first ++ header) ++ (blob ++ more) = append_assoc (first ++ header) blob more in
     let apart : bytes ≡ first ++ (header ++ (blob ++ more)) = parted ∙ append_assoc first header (blob ++ more) in
     let long : length bytes ≡ start + length blob + length more =
-    omega (arith, four, length-append first header, length-append (first ++ header) blob,
-    length-append (framed header blob) more) in
+    omega (
+      arith,
+      four,
+      length-append first header,
+      length-append (first ++ header) blob,
+      length-append (framed header blob) more,
+    ) in
     let count : from_be_bytes w32 (take 4 bytes) ≡ length header =
     ap (λ all. from_be_bytes w32 (take 4 all)) apart
     ∙ ap (from_be_bytes w32) (take-first 4 first (header ++ (blob ++ more)) (sym four))
@@ -176,8 +193,12 @@ written_frame-reads what raw more written short =
 pub blob_front-short : (count : ℕ) → count < 2 ^ 64 →
     length (shortest_varint 10 ++ shortest_varint count) ≤ 20
 blob_front-short count fits =
-    omega (arith, shortest_varint-short 10 (omega arith), shortest_varint-short count fits,
-    length-append (shortest_varint 10) (shortest_varint count))
+    omega (
+      arith,
+      shortest_varint-short 10 (omega arith),
+      shortest_varint-short count fits,
+      length-append (shortest_varint 10) (shortest_varint count),
+    )
 
 -- a frame of its parts
 pub written_frame-parts : (what : What) (raw front header : List ℕ) (size : ℕ) →
