@@ -7,7 +7,7 @@ use Rattle.osm_blob.specs.declared.reading.Frame.{Frame}
 use Rattle.osm_blob.specs.declared.messages.What.{What}
 use Rattle.osm_blob.specs.Blobs.{BlobsValue, GaveAllFrames, GaveFramesToBad, StandsForFrames, blobs_fed, blobs_passed, no_blobs}
 use Rattle.osm_blob.specs.Front.{Short, Whole, Faulty, front_frame}
-use Rattle.osm_blob.specs.Frames.{FrameStart, Frames, More, Bad, frames_before, next_start, frame_at, frames_from, frames_of, no_frames}
+use Rattle.osm_blob.specs.Frames.{Frames, More, Bad, frames_before, next_start, frame_at, frames_from, frames_of, no_frames}
 use Rattle.osm_blob.proofs.FramesLemmas.{frames_before-frames_before, frames_from-bad, frames_from-short, frames_from-whole}
 use Rattle.osm_blob.proofs.FrontLemmas.{front_frame-size, front_frame-stays}
 

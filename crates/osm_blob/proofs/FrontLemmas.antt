@@ -1,15 +1,16 @@
 -- Lemmas on the frame at the front of bytes.
-use Rattle.std.proofs.Common.{◌≡◌, ℕ, ◌+◌, ◌-◌, ◌<◌, ◌≤◌, List, [], ◌∷◌, ◌++◌, length, take, drop, true, false, refl, sym, ap, ◌∙◌, subst, arith, inl, inr}
-use Rattle.std.specs.Prelude.{slice_index, ◌==◌, if◌then◌else◌, ◌≢◌, ◌⊎◌, Option, Some, None, Ok, Err, IfSome, nat_le, nat_lt, ℤ, pos, negsuc}
+use Rattle.std.proofs.Common.{◌≡◌, ℕ, ◌+◌, ◌-◌, ◌<◌, ◌≤◌, List, [], ◌∷◌, ◌++◌, length, take, drop, refl, sym, ap, ◌∙◌, subst, arith, inl, inr}
+use Rattle.std.specs.Prelude.{slice_index, ◌≢◌, Option, Some, None, Ok, Err, IfSome, nat_le, nat_lt, ℤ, pos, negsuc}
 use Rattle.std.specs.Int.{w32, from_be_bytes}
 use Rattle.std.specs.declared.result.Result.{Result}
 use Rattle.std.proofs.lemmas.Bool.{cases_lt, cond_both, lt-ltb, le-ltb, leb-true, ltb-true, ltb-false}
 use Rattle.std.proofs.lemmas.List.{length-append, take-append-le, drop-append-le, length-drop, length-take}
 use Rattle.osm_entity.specs.declared.verdict.Cause.{Cause}
-use Rattle.osm_entity.specs.declared.verdict.Cause.TheVariants.{BadWire, Compressed, HeaderTooLong}
+use Rattle.osm_entity.specs.declared.verdict.Cause.TheVariants.{HeaderTooLong}
 use Rattle.osm_blob.specs.declared.messages.BlobHeader.{BlobHeader}
 use Rattle.osm_blob.specs.declared.messages.What.{What}
 use Rattle.osm_blob.specs.declared.messages.What.TheVariants.{Header, Block, Other}
+use Rattle.osm_blob.proofs.ContentLemmas.{blob_said-short}
 use Rattle.osm_blob.specs.Front.{header_limit, FrontFrame, Short, Whole, Faulty, needing, frame_by_blob, frame_by_what, frame_by_size, frame_by_header, frame_by_length, front_frame}
 use Rattle.osm_blob.specs.Messages.{header_said, blob_said, blob_size, largest_blob}
 
@@ -132,10 +133,10 @@ front_frame-stays bytes more =
     (λ there. rw (take-append-le 4 bytes more there)
     (frame_by_length-stays bytes more (from_be_bytes w32 (take 4 bytes)) there))
 
--- a whole frame has some bytes, and no more than there are
+-- a whole frame has some bytes, no more than there are, and no fewer than its raw content
 abbrev IsSized : ℕ → FrontFrame → Type 0
 IsSized count Short = Unit {0}
-IsSized count (Whole what raw size) = (4 ≤ size) × (size ≤ count)
+IsSized count (Whole what raw size) = (4 ≤ size) × (size ≤ count) × (length raw ≤ size)
 IsSized count (Faulty cause blamed) = Unit {0}
 
 needing-sized : (count : ℕ) (bytes : List ℕ) (front : FrontFrame) →
@@ -145,24 +146,27 @@ needing-sized count bytes front sized =
     (λ none. sized (ltb-false (length bytes) count none))
 
 frame_by_blob-sized : (count : ℕ) (what : What) (size : ℕ) (said : Result (List ℕ) Cause) → 4 ≤ size →
-    size ≤ count → IsSized count (frame_by_blob what size said)
-frame_by_blob-sized count what size (Ok raw) some fits = (some, fits)
-frame_by_blob-sized count what size (Err cause) some fits = tt
+    size ≤ count → ((raw : List ℕ) → said ≡ Ok raw → length raw ≤ size) → IsSized count (frame_by_blob what size said)
+frame_by_blob-sized count what size (Ok raw) some fits short = (some, fits, short raw refl)
+frame_by_blob-sized count what size (Err cause) some fits short = tt
 
 frame_by_what-sized : (count : ℕ) (what : What) (size : ℕ) (blob : List ℕ) → 4 ≤ size → size ≤ count →
-    IsSized count (frame_by_what what size blob)
-frame_by_what-sized count Header size blob some fits =
+    length blob ≤ size → IsSized count (frame_by_what what size blob)
+frame_by_what-sized count Header size blob some fits short =
     frame_by_blob-sized count Header size (blob_said blob) some fits
-frame_by_what-sized count Block size blob some fits =
+    (λ raw is. omega (arith, blob_said-short blob raw is, short))
+frame_by_what-sized count Block size blob some fits short =
     frame_by_blob-sized count Block size (blob_said blob) some fits
-frame_by_what-sized count Other size blob some fits = (some, fits)
+    (λ raw is. omega (arith, blob_said-short blob raw is, short))
+frame_by_what-sized count Other size blob some fits short = (some, fits, omega arith)
 
 frame_by_size-sized : (bytes : List ℕ) (start : ℕ) (what : What) (size : Option ℕ) → 4 ≤ start →
     IsSized (length bytes) (frame_by_size bytes start what size)
 frame_by_size-sized bytes start what None some = tt
 frame_by_size-sized bytes start what (Some size) some =
     needing-sized (start + size) bytes (frame_by_what what (start + size) (take size (drop start bytes)))
-    (λ there. frame_by_what-sized (length bytes) what (start + size) (take size (drop start bytes)) (omega arith) there)
+    (λ there. frame_by_what-sized (length bytes) what (start + size) (take size (drop start bytes)) (omega arith) there
+    (omega (arith, length-take size (drop start bytes))))
 
 frame_by_header-sized : (bytes : List ℕ) (start : ℕ) (header : Option BlobHeader) → 4 ≤ start →
     IsSized (length bytes) (frame_by_header bytes start header)
@@ -189,7 +193,7 @@ front_frame-sized bytes =
 
 -- the size of a whole frame
 pub front_frame-size : (bytes : List ℕ) (what : What) (raw : List ℕ) (size : ℕ) →
-    front_frame bytes ≡ Whole what raw size → (4 ≤ size) × (size ≤ length bytes)
+    front_frame bytes ≡ Whole what raw size → (4 ≤ size) × (size ≤ length bytes) × (length raw ≤ size)
 front_frame-size bytes what raw size is = subst (IsSized (length bytes)) is (front_frame-sized bytes)
 
 -- no bytes are no frame

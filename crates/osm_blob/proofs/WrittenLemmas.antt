@@ -1,6 +1,6 @@
 -- Written frames read back.
 use Rattle.std.proofs.Common.{◌≡◌, ℕ, ◌+◌, ◌-◌, ◌<◌, ◌≤◌, ◌^◌, ◌%◌, List, [], ◌∷◌, ◌++◌, length, take, drop, false, refl, sym, ap, ◌∙◌, arith, append-nil, append_assoc, length-append, take_all}
-use Rattle.std.specs.Prelude.{All, ◌≢◌, ℤ, pos, Option, Some, None, Ok, nat_lt, nat_le}
+use Rattle.std.specs.Prelude.{◌≢◌, pos, Some, None, Ok}
 use Rattle.std.specs.Int.{w32, cast_signed, from_be_bytes, to_be_bytes}
 use Rattle.std.proofs.lemmas.Bool.{le-leb, lt-ltb}
 use Rattle.std.proofs.lemmas.Int.{to_z_pos}
@@ -12,8 +12,8 @@ use Rattle.osm_wire.specs.Integers.{int32}
 use Rattle.osm_wire.specs.Messages.{Bytes, FieldValue, Varint}
 use Rattle.osm_wire.specs.Written.{IsField, shortest_varint}
 use Rattle.osm_wire.proofs.WrittenLemmas.{shortest_varint-spells, written_message-fields}
-use Rattle.osm_blob.specs.Front.{FrontFrame, Whole, frame_by_header, frame_by_length, frame_by_what, front_frame, needing}
-use Rattle.osm_blob.specs.Messages.{blob_said, blob_size, content_in, header_in, header_said, largest_blob, raw_limit, unless_bad_wire, what_typed}
+use Rattle.osm_blob.specs.Front.{FrontFrame, Whole, frame_by_length, frame_by_what, front_frame}
+use Rattle.osm_blob.specs.Messages.{blob_said, content_in, header_in, header_said, largest_blob, raw_limit, unless_bad_wire, what_typed}
 use Rattle.osm_blob.specs.Written.{framed, type_text, written_blob, written_blob_header, written_frame}
 use Rattle.osm_blob.specs.declared.messages.BlobHeader.{BlobHeader}
 use Rattle.osm_blob.specs.declared.messages.What.{What}

@@ -1,6 +1,6 @@
 -- What the messages of a frame say: its blob header and its blob.
 -- Here the entries of each field are looked up among all fields; the code goes through the fields once.
-use Rattle.std.specs.Prelude.{ℕ, ℤ, pos, negsuc, List, [], map, filter, codes, length, Bool, true, false, ◌&&◌, ◌||◌, nat_le, nat_lt, if◌then◌else◌, Option, Some, None, Ok, Err}
+use Rattle.std.specs.Prelude.{ℕ, ℤ, pos, negsuc, List, map, filter, codes, length, Bool, true, false, ◌&&◌, ◌||◌, nat_le, nat_lt, if◌then◌else◌, Option, Some, None, Ok, Err}
 use Rattle.std.specs.Str.{bytes_eq}
 use Rattle.std.specs.declared.result.Result.{Result}
 use Rattle.osm_entity.specs.declared.verdict.Cause.{Cause}
