@@ -26,8 +26,8 @@ fed_stands b bytes all frames s = record {
 }
 
 -- a reader of blobs that passed a frame stands for it too
-pub took_stands : (b : BlobsValue) (what : What) (raw : List ℕ) (size : ℕ) → front_frame b.unread ≡ Whole what raw size →
-    (all : List ℕ) (frames : List Frame) → StandsForFrames b all frames →
+pub took_stands : (b : BlobsValue) (what : What) (raw : List ℕ) (size : ℕ) →
+    front_frame b.unread ≡ Whole what raw size → (all : List ℕ) (frames : List Frame) → StandsForFrames b all frames →
     StandsForFrames (blobs_passed size b) all (frames ++ frame_at b.next what raw ∷ [])
 took_stands b what raw size is all frames s =
     let fits = front_frame-size b.unread what raw size is in

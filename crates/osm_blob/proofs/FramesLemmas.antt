@@ -41,8 +41,8 @@ enough (suc n) (suc m) start bytes one two =
 -- the frames of bytes are the frame at the front and those behind it
 pub frames_from-step : (start : FrameStart) (bytes : List ℕ) →
     frames_from start bytes
-    ≡ front_frame_before start bytes (front_frame bytes)
-    (frames_from (next_start start (front_frame_size (front_frame bytes))) (drop (front_frame_size (front_frame bytes)) bytes))
+    ≡ (let size = front_frame_size (front_frame bytes) in
+    front_frame_before start bytes (front_frame bytes) (frames_from (next_start start size) (drop size bytes)))
 unfolding frames_from
 frames_from-step start [] = rw front_frame-nil refl
 frames_from-step start (byte ∷ bytes) =

@@ -125,7 +125,8 @@ frame_by_length-stays bytes more count some =
     ]
 
 -- the frame at the front of bytes stays what it is when more come
-pub front_frame-stays : (bytes more : List ℕ) → front_frame bytes ≢ Short → front_frame (bytes ++ more) ≡ front_frame bytes
+pub front_frame-stays : (bytes more : List ℕ) → front_frame bytes ≢ Short →
+    front_frame (bytes ++ more) ≡ front_frame bytes
 unfolding front_frame
 front_frame-stays bytes more =
     needing-stays 4 bytes more (frame_by_length bytes (from_be_bytes w32 (take 4 bytes)))

@@ -53,8 +53,9 @@ front_frame_before start bytes (Faulty cause blamed) later = no_frames start (Ba
 abbrev pub frames_within : ℕ → FrameStart → List ℕ → Frames
 frames_within zero start bytes = no_frames start (More bytes)
 frames_within (suc count) start bytes =
+    let size = front_frame_size (front_frame bytes) in
     front_frame_before start bytes (front_frame bytes)
-    (frames_within count (next_start start (front_frame_size (front_frame bytes))) (drop (front_frame_size (front_frame bytes)) bytes))
+    (frames_within count (next_start start size) (drop size bytes))
 
 -- the frames of bytes that begin here: there are no more than bytes
 unfoldable pub frames_from : FrameStart → List ℕ → Frames

@@ -1,8 +1,8 @@
 //! The frame at the front of some bytes, after the OSM PBF page.
 //!
-//! A frame is four bytes, the big-endian length of its blob header; the blob header, which says what
-//! its blob holds and how many bytes it has; and the blob. A length is believed only as far as its
-//! bytes came.
+//! A frame is four bytes, the big-endian length of its blob header; the blob header, which says
+//! what its blob holds and how many bytes it has; and the blob. Each fault is told as soon as the
+//! bytes that show it are there, and a length is believed only as far as its bytes came.
 ghost use Rattle.std.specs.Prelude.{◌≡◌, ◌≤◌, Some, length};
 ghost use Rattle.osm_blob.specs.Front.{frame_by_header, frame_by_what, front_frame};
 ghost use Rattle.osm_blob.specs.FrontSeen.{first_frame_seen};

@@ -15,7 +15,8 @@ pub fn frames_go_on()
     ensures more { (bytes more : List ℕ) →
         frames_of (bytes ++ more) ≡ frames_with_more (frames_of bytes) more }
     ensures pieces { (bytes : List ℕ) (pieces : List (List ℕ)) →
-        frames_with_pieces (frames_of bytes) pieces ≡ frames_of (bytes ++ flat_map (λ p. p) pieces) }
+        frames_with_pieces (frames_of bytes) pieces
+        ≡ frames_of (bytes ++ flat_map (λ p. p) pieces) }
     ensures bad { (bytes more : List ℕ) (cause : Cause) (blamed : Option What) →
         (frames_of bytes).stop ≡ Bad cause blamed → frames_of (bytes ++ more) ≡ frames_of bytes }
 {}
@@ -35,5 +36,6 @@ pub fn fronts_stay()
 /// A written frame is read back, whatever comes behind it.
 pub fn written_frames_read_back()
     ensures { (what : What) (raw more : List ℕ) → what ≢ Other → length raw < raw_limit →
-        front_frame (written_frame what raw ++ more) ≡ Whole what raw (length (written_frame what raw)) }
+        front_frame (written_frame what raw ++ more)
+        ≡ Whole what raw (length (written_frame what raw)) }
 {}

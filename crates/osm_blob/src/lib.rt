@@ -1,7 +1,7 @@
 //! Cuts a raw PBF file into frames, however its bytes come, and writes frames.
 //!
-//! A frame is the length of a blob header, the blob header and a blob, as the OSM PBF page has them.
-//! The raw content of a blob is handed on; this crate doesn't look into it.
+//! A frame is the length of a blob header, the blob header and a blob, as the OSM PBF page has
+//! them. The raw content of a blob is handed on; this crate doesn't look into it.
 #![tactic(auto)]
 
 mod front;

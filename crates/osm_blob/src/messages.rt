@@ -1,6 +1,9 @@
 //! Reads the messages of a frame, after the OSM PBF page: a blob header, of which field 1 is the
-//! type, 2 are bytes that are skipped and 3 is the size of the blob; and a blob, of which field 1 is
-//! the raw content, 2 a number that isn't looked at, and 3 to 7 are compressed contents.
+//! type, 2 are bytes that are skipped and 3 is the size of the blob; and a blob, of which field 1
+//! is the raw content, 2 a number that isn't looked at, and 3 to 7 are compressed contents.
+//!
+//! Of a field that is given more than once the last entry counts. One of these fields with another
+//! wire type than its own makes its message bad.
 ghost use Rattle.std.specs.Prelude.{◌≡◌, Err, IfErr, IfOk, None, Ok, OnErr, OnOk};
 ghost use Rattle.osm_entity.specs.declared.verdict.Cause.TheVariants.{BadWire};
 ghost use Rattle.osm_wire.specs.Fronts.{Front, empty_front, in_front};

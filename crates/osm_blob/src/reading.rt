@@ -47,8 +47,8 @@ impl From<NoMemory> for BlobError {
 }
 
 /// Cuts the bytes of a file into frames. Where `feed` is called only after `next` answered `None`,
-/// it holds the piece that was fed last, and fewer than 33,620,995 bytes before it, whatever lengths
-/// the file says.
+/// it holds the piece that was fed last, and fewer than 33,620,995 bytes before it, whatever
+/// lengths the file says.
 #[derive(Drop)]
 pub struct BlobReader {
     alloc: Global,
@@ -146,8 +146,8 @@ impl BlobReader {
         }
     }
 
-    /// The next frame. `None` exactly where the bytes that were fed hold no further whole frame, and
-    /// no bad one. After `Bad` it answers the same again, whatever is fed yet; at `Memory` the
+    /// The next frame. `None` exactly where the bytes that were fed hold no further whole frame,
+    /// and no bad one. After `Bad` it answers the same again, whatever is fed yet; at `Memory` the
     /// reader is as it was, and the call may be made again.
     pub fn next(&mut self) -> Result<Option<Frame>, BlobError>
         ensures answers { AnswersNext self.old self.new result }

@@ -15,8 +15,8 @@ use std::alloc::Global;
 /// The tag of a blob's raw content: its field 1, which holds bytes.
 const RAW_TAG: u64 = 10;
 
-/// The frame with this raw content, of fewer than 33,554,432 bytes, in a blob that holds a header or
-/// a block.
+/// The frame whose blob has this raw content, of fewer than 33,554,432 bytes, and holds a header or
+/// a block. Its messages have their shortest spelling. At `Err` it is out of memory.
 pub fn frame(alloc: Global, what: What, raw: &[u8]) -> Result<Bytes, NoMemory>
     requires written { what ≢ Other }
     requires short { length raw.now < raw_limit }
