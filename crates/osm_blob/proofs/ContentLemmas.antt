@@ -41,8 +41,13 @@ fields-short : (limit : ℕ) (bytes : List ℕ) (fields : List FieldValue) → l
 fields-short limit bytes [] fits is = tt
 fields-short limit bytes (field ∷ fields) fits (before, rest, joined, first, more) = (
   payload-short limit first.payload field.value
-  (omega (arith, ap length joined, length-append before rest, ap length first.joined,
-  length-append first.tag first.payload)) first.held,
+      (omega (
+        arith,
+        ap length joined,
+        length-append before rest,
+        ap length first.joined,
+        length-append first.tag first.payload,
+      )) first.held,
   fields-short limit rest fields (omega (arith, ap length joined, length-append before rest)) more,
 )
 

@@ -19,12 +19,13 @@ first_start = record { number = 0; byte = 0 }
 abbrev pub next_start : FrameStart → ℕ → FrameStart
 next_start start size = record { number = start.number + 1; byte = start.byte + size }
 
--- why no further frame comes: the bytes that are left are too few to tell, or the next frame is bad
+-- why no further frame comes: the bytes that are left are too few to tell, or the next frame is bad for a cause, and
+-- what its blob holds where it is bad for what the blob says
 pub data FramesStop : Type 0 where
   More : (left : List ℕ) → FramesStop
   Bad : (cause : Cause) → (blamed : Option What) → FramesStop
 
--- the frames of bytes: those that are whole and good up to the first bad one, where the next one begins, and why it
+-- the frames of bytes: those that are whole and good, up to the first bad one; where the next one begins; and why it
 -- doesn't come
 pub record Frames : Type 0 where
   pub frames : List Frame
@@ -39,11 +40,11 @@ no_frames start stop = record { frames = []; next = start; stop = stop }
 abbrev pub frames_before : List Frame → Frames → Frames
 frames_before frames later = record { frames = frames ++ later.frames; next = later.next; stop = later.stop }
 
--- a frame that begins here
+-- a whole and good frame that begins here
 abbrev pub frame_at : FrameStart → What → List ℕ → Frame
 frame_at start what raw = record { number = start.number; byte = start.byte; what = what; raw = raw }
 
--- what a front gives of frames, before those behind it
+-- what bytes begin with, and the frames behind that: a whole frame comes before them, and else there are none
 abbrev pub front_frame_before : FrameStart → List ℕ → FrontFrame → Frames → Frames
 front_frame_before start bytes Short later = no_frames start (More bytes)
 front_frame_before start bytes (Whole what raw size) later = frames_before (frame_at start what raw ∷ []) later
@@ -57,7 +58,7 @@ frames_within (suc count) start bytes =
     front_frame_before start bytes (front_frame bytes)
     (frames_within count (next_start start size) (drop size bytes))
 
--- the frames of bytes that begin here: there are no more than bytes
+-- the frames of bytes that begin here, of which there are no more than bytes
 unfoldable pub frames_from : FrameStart → List ℕ → Frames
 frames_from start bytes = frames_within (length bytes) start bytes
 

@@ -12,29 +12,29 @@ use Rattle.osm_blob.specs.declared.messages.BlobHeader.{BlobHeader}
 use Rattle.osm_blob.specs.declared.messages.What.{What}
 use Rattle.osm_blob.specs.declared.messages.What.TheVariants.{Header, Block, Other}
 
--- a raw content has fewer bytes than this
+-- a raw content has fewer bytes than this: 32 MiB
 abbrev pub raw_limit : ℕ
 raw_limit = 33554432
 
--- the most bytes of a blob
+-- the most bytes of a blob: 32 MiB and 1 KiB
 abbrev pub largest_blob : ℕ
 largest_blob = 33555456
 
--- what a blob of this type holds
+-- what a blob of this type holds: a header for OSMHeader, a block for OSMData, and something else for any other
 abbrev pub what_typed : List ℕ → What
 what_typed name =
     if bytes_eq name (codes "OSMHeader") then Header
     else if bytes_eq name (codes "OSMData") then Block
     else Other
 
--- a type and a size as what a blob header says, which needs both
+-- what a blob header of this type and size says; it needs both
 abbrev pub header_given : Option (List ℕ) → Option ℕ → Option BlobHeader
 header_given None size = None
 header_given (Some name) None = None
 header_given (Some name) (Some size) = Some (record { what = what_typed name; size = int32 size })
 
--- what the fields of a blob header say: 1 its type, 2 bytes that are skipped, and 3 the size of its blob; where 1 or 3
--- isn't among them it has this type or size
+-- what the fields of a blob header say: 1 the type of its blob, 2 bytes that are skipped, and 3 the size of its blob;
+-- where 1 or 3 isn't among them it has this type or size
 abbrev pub header_in : Option (List ℕ) → Option ℕ → List FieldValue → Option BlobHeader
 header_in name size fields = do
   its_name ← bytes_given name 1 fields
@@ -42,11 +42,11 @@ header_in name size fields = do
   its_size ← number_given size 3 fields
   header_given its_name its_size
 
--- what a blob header says, where it is well formed
+-- what a blob header says; nothing where it is no good message, or has no type or no size
 unfoldable pub header_said : List ℕ → Option BlobHeader
 header_said bytes = message_fields bytes >>= header_in None None
 
--- a size that a blob may have
+-- the size of a blob, where it is one that a blob may have
 abbrev pub blob_size : ℤ → Option ℕ
 blob_size (pos size) = if nat_le size largest_blob then Some size else None
 blob_size (negsuc less) = None
@@ -59,7 +59,8 @@ has_compressed field = nat_le 3 field.number && nat_le field.number 7
 abbrev pub compressed_in : List FieldValue → Option (List (List ℕ))
 compressed_in fields = all_said as_bytes (map (λ field. field.value) (filter has_compressed fields))
 
--- the content of a blob by its raw content and by whether it has a compressed one, or what is wrong with it
+-- the content of a blob by its raw content and by whether it has a compressed one: Compressed where it has, else
+-- BadWire where it has no raw one, else BlobTooLong from the limit on
 abbrev pub content_given : Option (List ℕ) → Bool → Result (List ℕ) Cause
 content_given raw true = Err Compressed
 content_given None false = Err BadWire
@@ -74,7 +75,7 @@ content_in raw compressed fields = do
   contents ← compressed_in fields
   Some (content_given its_raw (compressed || nat_lt 0 (length contents)))
 
--- what a message says, or BadWire where it isn't well formed
+-- what a message says, or BadWire where it is no good message
 abbrev pub unless_bad_wire : {T : Type 0} → Option (Result T Cause) → Result T Cause
 unless_bad_wire None = Err BadWire
 unless_bad_wire (Some said) = said

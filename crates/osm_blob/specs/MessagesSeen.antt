@@ -12,11 +12,11 @@ use Rattle.osm_blob.specs.declared.messages.BlobEntries.{BlobEntries}
 use Rattle.osm_blob.specs.declared.messages.BlobHeader.{BlobHeader}
 use Rattle.osm_blob.specs.declared.messages.HeaderEntries.{HeaderEntries}
 
--- what entries of a blob header say, and the fields that follow
+-- what entries of a blob header say together with the fields that follow
 abbrev pub header_with : HeaderEntries → Front FieldValue → Option BlobHeader
 header_with entries front = whole_front front >>= header_in (option_map (λ s. s.now) entries.name) entries.size
 
--- what entries of a blob say, and the fields that follow
+-- what entries of a blob say together with the fields that follow
 abbrev pub content_with : BlobEntries → Front FieldValue → Result (List ℕ) Cause
 content_with entries front =
     unless_bad_wire (whole_front front >>= content_in (option_map (λ s. s.now) entries.raw) entries.compressed)
