@@ -1,0 +1,13 @@
+//! Blocks of PBF files, as they are written: the header block, and the block of a run of entities.
+//!
+//! A run is one kind of entity, up to a number and a weight. Its block holds each text once, and
+//! its entities by the numbers of their texts.
+#![tactic(auto)]
+
+mod header;
+mod laws;
+mod options;
+
+pub use header::header;
+pub use laws::runs_are_one_list;
+pub use options::PbfOptions;
