@@ -1,1 +1,10 @@
+pub mod BlockLemmas
+pub mod ColumnsLemmas
+pub mod ListLemmas
+pub mod MakersLemmas
+pub mod PackingLemmas
+pub mod ResultLemmas
 pub mod RunsLemmas
+pub mod TablesLemmas
+pub mod TakingLemmas
+pub mod TextsLemmas

@@ -14,11 +14,13 @@ use Rattle.osm_block_write.specs.Messages.{dense_fields, entity_field}
 use Rattle.osm_block_write.specs.Numbered.{Numbered, numbered}
 use Rattle.osm_block_write.specs.Tables.{table_of}
 
--- a header block: the features that a reader needs, of which dense nodes are one only where they are used
+-- the feature of dense nodes; none where they aren't used
+abbrev pub dense_feature : PbfOptions → List FieldValue
+dense_feature options = if options.usedense then bytes_field 4 (codes "DenseNodes") ∷ [] else []
+
+-- a header block: the features that a reader needs, which are the schema and, where they are used, dense nodes
 abbrev pub header_fields : PbfOptions → List FieldValue
-header_fields options =
-    bytes_field 4 (codes "OsmSchema-V0.6")
-    ∷ (if options.usedense then bytes_field 4 (codes "DenseNodes") ∷ [] else [])
+header_fields options = bytes_field 4 (codes "OsmSchema-V0.6") ∷ dense_feature options
 
 -- the bytes of a header block
 abbrev pub header_bytes : PbfOptions → List ℕ
@@ -31,9 +33,9 @@ is_dense options OfWay = false
 is_dense options OfRelation = false
 
 -- the group of a run: one message of dense nodes, or one of each entity
-abbrev pub group_fields : PbfOptions → Kind → List Numbered → List FieldValue
-group_fields options kind run =
-    if is_dense options kind
+abbrev pub group_fields : Bool → PbfOptions → List Numbered → List FieldValue
+group_fields dense options run =
+    if dense
     then bytes_field 2 (written_message (dense_fields options run)) ∷ []
     else map (entity_field options) run
 
@@ -45,7 +47,7 @@ granularity_field granularity = if granularity == 100 then [] else number_field 
 abbrev pub block_fields : PbfOptions → Kind → List (List ℕ) → List EntityValue → List FieldValue
 block_fields options kind table run =
     bytes_field 1 (written_message (map (bytes_field 1) table))
-    ∷ bytes_field 2 (written_message (group_fields options kind (map (numbered options table) run)))
+    ∷ bytes_field 2 (written_message (group_fields (is_dense options kind) options (map (numbered options table) run)))
     ∷ granularity_field options.granularity
 
 -- the bytes of the block of a run of this kind

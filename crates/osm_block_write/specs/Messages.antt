@@ -14,7 +14,7 @@ use Rattle.osm_wire.specs.Messages.{FieldValue}
 use Rattle.osm_wire.specs.Written.{written_message}
 use Rattle.osm_block_write.specs.declared.options.PbfOptions.{PbfOptions}
 use Rattle.osm_block_write.specs.Columns.{bytes_field, delta_field, number_field, packed_field}
-use Rattle.osm_block_write.specs.Numbered.{Numbered}
+use Rattle.osm_block_write.specs.Numbered.{Numbered, NumberedTag}
 
 -- a number of nanodegrees by units of the granularity, cut toward zero
 abbrev pub in_units : PbfOptions → ℤ → ℤ
@@ -36,11 +36,11 @@ place_in (Node place) = place
 place_in (Way refs) = None
 place_in (Relation members) = None
 
--- the metadata of an entity: version, time, changeset, uid and user, each written also where it is 0
-abbrev pub info_fields : Numbered → List FieldValue
-info_fields n =
-    number_field 1 n.entity.version ∷ number_field 2 n.entity.time ∷ number_field 3 n.entity.changeset
-    ∷ number_field 4 n.entity.uid ∷ number_field 5 n.user ∷ []
+-- the metadata of an entity: version, time, changeset, uid and the number of its user, each written also where it is 0
+abbrev pub info_fields : EntityValue → ℕ → List FieldValue
+info_fields e user =
+    number_field 1 e.version ∷ number_field 2 e.time ∷ number_field 3 e.changeset ∷ number_field 4 e.uid
+    ∷ number_field 5 user ∷ []
 
 -- metadata as a message within another, under this number; none where it is left out
 abbrev pub info_field : PbfOptions → ℕ → List FieldValue → List FieldValue
@@ -51,7 +51,7 @@ info_field options number info =
 abbrev pub described : PbfOptions → Numbered → List FieldValue
 described options n =
     packed_field 2 (map (λ t. t.key) n.tags) ++ packed_field 3 (map (λ t. t.value) n.tags)
-    ++ info_field options 4 (info_fields n)
+    ++ info_field options 4 (info_fields n.entity n.user)
 
 -- a node: its id by zigzag, what every entity has, and its latitude and longitude by zigzag
 abbrev pub node_fields : PbfOptions → Option Place → Numbered → List FieldValue
@@ -90,16 +90,17 @@ dense_info_fields nodes =
     ++ delta_field w32 5 (map (λ n. pos n.user) nodes)
 
 -- whether an entity has tags
-abbrev pub has_tags : Numbered → Bool
-has_tags n = nat_lt 0 (length n.tags)
+abbrev pub has_tags : EntityValue → Bool
+has_tags e = nat_lt 0 (length e.tags)
 
 -- the tags of a dense node: the key and the value of each, and then a 0
-abbrev pub keys_vals : Numbered → List ℕ
-keys_vals n = flat_map (λ t. t.key ∷ t.value ∷ []) n.tags ++ 0 ∷ []
+abbrev pub keys_vals : List NumberedTag → List ℕ
+keys_vals tags = flat_map (λ t. t.key ∷ t.value ∷ []) tags ++ 0 ∷ []
 
 -- the tags of dense nodes; none where no node has any
 abbrev pub keys_vals_field : List Numbered → List FieldValue
-keys_vals_field nodes = if list_any has_tags nodes then packed_field 10 (flat_map keys_vals nodes) else []
+keys_vals_field nodes =
+    if list_any (λ n. has_tags n.entity) nodes then packed_field 10 (flat_map (λ n. keys_vals n.tags) nodes) else []
 
 -- dense nodes: ids, metadata, latitudes, longitudes and tags, each as one column
 abbrev pub dense_fields : PbfOptions → List Numbered → List FieldValue

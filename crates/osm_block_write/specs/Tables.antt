@@ -1,7 +1,7 @@
 -- String tables: which texts a block holds, and by which number each is named.
 -- Here a table is made of all texts at once; the code looks up each text as it comes.
 use Rattle.std.specs.Prelude.{ℕ, List, [], ◌∷◌, ◌++◌, map, Bool, not, if◌then◌else◌, bytes_eq}
-use Rattle.std.specs.List.{filter, flat_map, position_or_len}
+use Rattle.std.specs.List.{filter, flat_map, fold, list_any, position_or_len}
 use Rattle.osm_entity.specs.Entities.{EntityValue}
 use Rattle.osm_entity.specs.declared.parts.Body.{Body}
 use Rattle.osm_entity.specs.declared.parts.Body.TheVariants.{Node, Way, Relation}
@@ -20,6 +20,14 @@ first_uses (text ∷ more) = text ∷ without text (first_uses more)
 -- the string table of texts: the empty text, and then the others in the order of first use
 abbrev pub string_table : List (List ℕ) → List (List ℕ)
 string_table texts = first_uses ([] ∷ texts)
+
+-- a table with a text more, where it lacks it
+abbrev pub with_text : List (List ℕ) → List ℕ → List (List ℕ)
+with_text table text = if list_any (bytes_eq text) table then table else table ++ text ∷ []
+
+-- a table with texts more, one after the other
+abbrev pub with_texts : List (List ℕ) → List (List ℕ) → List (List ℕ)
+with_texts table texts = fold with_text table texts
 
 -- the number of a text in a table: how many texts stand before it
 abbrev pub number_in : List (List ℕ) → List ℕ → ℕ

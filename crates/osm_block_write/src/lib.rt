@@ -4,10 +4,22 @@
 //! its entities by the numbers of their texts.
 #![tactic(auto)]
 
-mod header;
+mod block;
+mod columns;
+mod dense;
+mod heading;
 mod laws;
+mod maker;
+mod messages;
+mod numbering;
+mod numbers;
 mod options;
+mod packing;
+mod places;
+mod taken;
+mod texts;
 
-pub use header::header;
+pub use heading::header;
 pub use laws::runs_are_one_list;
+pub use maker::{AddError, BlockMaker};
 pub use options::PbfOptions;

@@ -1,8 +1,9 @@
 //! The header block: the features that a reader needs.
 //!
 //! Field 4 of a HeaderBlock names a required feature (OSM PBF format, "OSMHeader fileblock").
-ghost use Rattle.std.specs.Prelude.{◌≡◌, IfOk};
-ghost use Rattle.osm_block_write.specs.Block.{header_bytes};
+ghost use Rattle.std.specs.Prelude.{◌≡◌, ◌++◌, IfOk, OnOk};
+ghost use Rattle.osm_wire.specs.Written.{written_message};
+ghost use Rattle.osm_block_write.specs.Block.{dense_feature, header_bytes};
 
 use crate::options::PbfOptions;
 use osm_entity::{Bytes, NoMemory};
@@ -16,8 +17,16 @@ pub fn header(alloc: Global, options: &PbfOptions) -> Result<Bytes, NoMemory>
 {
     let mut block = Bytes::new(alloc);
     put_bytes(&mut block, 4, b"OsmSchema-V0.6")?;
-    if options.usedense {
-        put_bytes(&mut block, 4, b"DenseNodes")?;
-    }
+    put_dense(&mut block, options)?;
     Ok(block)
+}
+
+// Appends the feature of dense nodes, where they are used.
+fn put_dense(block: &mut Bytes, options: &PbfOptions) -> Result<(), NoMemory>
+    ensures ok { OnOk result (block.new ≡ block.old ++ written_message (dense_feature options.now)) }
+{
+    if !options.usedense {
+        return Ok(());
+    }
+    put_bytes(block, 4, b"DenseNodes")
 }
