@@ -1,0 +1,9 @@
+pub mod AnswerLemmas
+pub mod EntryLemmas
+pub mod FieldLemmas
+pub mod FrontLemmas
+pub mod NumberLemmas
+pub mod PayloadLemmas
+pub mod TagLemmas
+pub mod VarintLemmas
+pub mod WrittenLemmas

@@ -1,0 +1,8 @@
+pub mod Entries
+pub mod Fronts
+pub mod Integers
+pub mod Messages
+pub mod Refusals
+pub mod Seen
+pub mod Varints
+pub mod Written
