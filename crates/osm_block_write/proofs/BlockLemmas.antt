@@ -1,8 +1,8 @@
 -- The block of what was taken is the block of the run.
 use Rattle.std.proofs.Common.{◌≡◌, ℕ, List, [], ◌∷◌, ◌++◌, map, true, false, refl, sym, ap, ◌∙◌}
-use Rattle.std.specs.Prelude.{Bool, ◌||◌, if◌then◌else◌, pos}
+use Rattle.std.specs.Prelude.{Bool, ◌||◌}
 use Rattle.std.specs.List.{flat_map, list_any}
-use Rattle.std.proofs.lemmas.Bool.{cond_both, false≢true}
+use Rattle.std.proofs.lemmas.Bool.{false≢true}
 use Rattle.std.proofs.lemmas.Simd.{map-map}
 use Rattle.osm_entity.specs.Entities.{EntityValue}
 use Rattle.osm_entity.specs.declared.kind.Kind.{Kind}

@@ -1,10 +1,10 @@
 -- Columns as they are appended, number by number.
-use Rattle.std.proofs.Common.{◌≡◌, ℕ, ◌+◌, ◌<◌, List, [], ◌∷◌, ◌++◌, length, drop, get_or, map, refl, sym, ap, ◌∙◌, add-one, arith, append_assoc, append-nil, drop-cons}
-use Rattle.std.specs.Prelude.{ℤ, pos, ◌-ℤ◌}
+use Rattle.std.proofs.Common.{◌≡◌, ℕ, ◌+◌, ◌<◌, List, ◌++◌, length, drop, get_or, map, sym, ap, ◌∙◌, append_assoc}
+use Rattle.std.specs.Prelude.{ℤ, ◌-ℤ◌}
 use Rattle.std.specs.Int.{Width, int_wrap}
 use Rattle.osm_wire.specs.Integers.{zigzagged}
 use Rattle.osm_wire.specs.Written.{packed, shortest_varint}
-use Rattle.osm_block_write.specs.Columns.{deltas, differences_from}
+use Rattle.osm_block_write.specs.Columns.{differences_from}
 use Rattle.osm_block_write.proofs.ListLemmas.{drop-next}
 
 -- what is still to come of a delta coded column behind a number

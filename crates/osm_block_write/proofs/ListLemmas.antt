@@ -1,5 +1,5 @@
 -- A step of a loop over a list, by what is still to come of it.
-use Rattle.std.proofs.Common.{◌≡◌, ℕ, ◌+◌, ◌<◌, List, [], ◌∷◌, ◌++◌, length, drop, get_or, refl, sym, ap, ◌∙◌, add-one, suc, append_assoc, append-nil, drop-cons}
+use Rattle.std.proofs.Common.{◌≡◌, ℕ, ◌+◌, ◌<◌, List, [], ◌∷◌, ◌++◌, length, drop, get_or, sym, ap, ◌∙◌, add-one, suc, append_assoc, append-nil, drop-cons}
 use Rattle.osm_entity.specs.Prefixes.{IsPrefix}
 
 -- what is to come of a list from an element on is that element, and what is to come behind it

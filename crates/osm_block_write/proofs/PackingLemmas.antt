@@ -5,7 +5,7 @@ use Rattle.std.specs.List.{flat_map}
 use Rattle.std.proofs.lemmas.Bool.{cond_both, eqb-true}
 use Rattle.std.proofs.lemmas.List.Folds.{flat_map-map}
 use Rattle.std.proofs.lemmas.List.{take_all}
-use Rattle.osm_wire.specs.Written.{packed, shortest_varint, varint_within, written_message}
+use Rattle.osm_wire.specs.Written.{packed, shortest_varint, varint_within}
 use Rattle.osm_block_write.specs.Columns.{packed_field}
 use Rattle.osm_block_write.specs.Messages.{keys_vals}
 use Rattle.osm_block_write.specs.Numbered.{NumberedTag}

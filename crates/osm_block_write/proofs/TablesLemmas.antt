@@ -2,7 +2,7 @@
 use Rattle.std.proofs.Common.{◌≡◌, ℕ, ◌+◌, ◌≤◌, List, [], ◌∷◌, ◌++◌, ◌<◌, length, map, drop, get_or, take, true, false, refl, sym, ap, ◌∙◌, cond, subst, arith, append_assoc, append-nil, inl, inr}
 use Rattle.std.specs.Prelude.{Bool, ◌||◌, not, bytes_eq, sum_by}
 use Rattle.std.specs.Cmp.Lexicographic.{bytes_decides}
-use Rattle.std.specs.List.{AllByRecursion, filter, flat_map, list_any}
+use Rattle.std.specs.List.{AllByRecursion, flat_map, list_any}
 use Rattle.std.proofs.lemmas.Bool.{cond_both, false≢true, or_cases, or_left, or_right}
 use Rattle.std.proofs.lemmas.List.{length-append}
 use Rattle.std.proofs.lemmas.List.Elements.{filter-append}
@@ -81,7 +81,7 @@ first-with_text first text more false true same known =
     (sym (with_text-known (first ∷ without first more) text (is_in-without text first more ∙ rw (same, known) refl)))
 first-with_text first text more true false same known =
     let own : bytes_eq first text ≡ true =
-        (bytes_decides first text).1 (sym ((bytes_decides text first).0 same)) in
+    (bytes_decides first text).1 (sym ((bytes_decides text first).0 same)) in
     ap (λ t. first ∷ without first t) (with_text-new more text known)
     ∙ ap (λ t. first ∷ t)
     (filter-append (λ t. not (bytes_eq first t)) more (text ∷ []) ∙ rw own (append-nil (without first more)))

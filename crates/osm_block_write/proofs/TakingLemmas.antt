@@ -1,25 +1,21 @@
 -- What is taken of a run with an entity more, and the block of what was taken.
-use Rattle.std.proofs.Common.{◌≡◌, ℕ, List, [], ◌∷◌, ◌++◌, map, true, false, refl, sym, ap, subst, ◌∙◌, append_assoc, append-nil}
-use Rattle.std.specs.Prelude.{Bool, if◌then◌else◌, pos}
-use Rattle.std.specs.Int.{w32, w64}
-use Rattle.std.specs.List.{flat_map, list_any}
-use Rattle.std.proofs.lemmas.Bool.{cond_both}
+use Rattle.std.proofs.Common.{◌≡◌, ℕ, List, [], ◌∷◌, ◌++◌, map, true, false, refl, sym, ap, subst, ◌∙◌, append-nil}
+use Rattle.std.specs.Prelude.{Bool, if◌then◌else◌}
+use Rattle.std.specs.List.{flat_map}
 use Rattle.std.proofs.lemmas.List.{map-append}
 use Rattle.std.proofs.lemmas.List.Concat.{flat_map-append}
 use Rattle.osm_entity.specs.Entities.{EntityValue}
 use Rattle.osm_entity.specs.Prefixes.{IsPrefix}
 use Rattle.osm_entity.specs.declared.kind.Kind.{Kind}
-use Rattle.osm_entity.specs.declared.parts.Body.{Body}
 use Rattle.osm_entity.specs.declared.parts.Tag.{Tag}
 use Rattle.osm_wire.specs.Written.{packed, shortest_varint, written_field, written_message}
 use Rattle.osm_block_write.specs.declared.options.PbfOptions.{PbfOptions}
-use Rattle.osm_block_write.specs.declared.taken.Taken.{Taken}
-use Rattle.osm_block_write.specs.Block.{block_bytes, is_dense}
-use Rattle.osm_block_write.specs.Messages.{entity_field, has_tags, keys_vals}
-use Rattle.osm_block_write.specs.Numbered.{Numbered, NumberedTag, numbered, numbered_tag, user_number}
+use Rattle.osm_block_write.specs.Block.{is_dense}
+use Rattle.osm_block_write.specs.Messages.{entity_field, keys_vals}
+use Rattle.osm_block_write.specs.Numbered.{Numbered, numbered, numbered_tag, user_number}
 use Rattle.osm_block_write.specs.Tables.{number_in, role_texts, string_table, table_of, tag_texts, texts_of, user_texts, with_text, with_texts}
-use Rattle.osm_block_write.specs.Taking.{block_of_taken, row_of, tags_packed, taken_by, taken_of, with_numbered, with_taken}
-use Rattle.osm_block_write.proofs.TablesLemmas.{AreIn, AreIn-append, AreIn-begins, AreIn-parts, AreIn-with_texts, is_in-with_text, number_in-begins, number_in-with_text, string_table-append, with_texts-begins}
+use Rattle.osm_block_write.specs.Taking.{row_of, tags_packed, taken_by, taken_of, with_numbered, with_taken}
+use Rattle.osm_block_write.proofs.TablesLemmas.{AreIn, AreIn-parts, AreIn-with_texts, is_in-with_text, number_in-begins, number_in-with_text, string_table-append, with_texts-begins}
 
 -- the tags of an entity by a table that begins with one that has their texts
 tags-stay : (table new : List (List ℕ)) (tags : List Tag) → IsPrefix table new →

@@ -1,6 +1,6 @@
 -- A table of texts over a set of keys that hold them.
-use Rattle.std.proofs.Common.{◌≡◌, ℕ, ◌+◌, ◌≤◌, List, [], ◌∷◌, ◌++◌, length, map, take, true, false, refl, sym, ap, ◌∙◌, arith, cond, Option, Some, None}
-use Rattle.std.specs.Prelude.{Bool, ◌||◌, not, bytes_eq, nat_lt}
+use Rattle.std.proofs.Common.{◌≡◌, ℕ, ◌+◌, ◌≤◌, List, [], ◌∷◌, ◌++◌, length, map, take, true, false, refl, sym, ap, ◌∙◌, arith, cond, Some, None}
+use Rattle.std.specs.Prelude.{◌||◌, not, bytes_eq, nat_lt}
 use Rattle.std.specs.List.{flat_map, list_any, position, position_or_len}
 use Rattle.std.proofs.lemmas.Bool.{cond_both, ltb-false}
 use Rattle.std.proofs.lemmas.List.{map-append, take_all}
@@ -63,7 +63,7 @@ module _ {K : Type 0} (held : K → List ℕ) where
       new ≡ insert_key (λ a b. bytes_eq (held a) (held b)) keys copy → map held new ≡ table ++ text ∷ []
   table-pushed keys new copy table text holds absent is inserted =
       let lacks : list_any (λ k. bytes_eq (held copy) (held k)) keys ≡ false =
-          rw is (sym (is_in-map keys text) ∙ ap (list_any (bytes_eq text)) holds ∙ absent) in
+      rw is (sym (is_in-map keys text) ∙ ap (list_any (bytes_eq text)) holds ∙ absent) in
       ap (map held) (inserted ∙ rw lacks refl) ∙ map-append held keys (copy ∷ [])
       ∙ ap (λ first. first ++ held copy ∷ []) holds ∙ ap (λ t. table ++ t ∷ []) is
 

@@ -1,7 +1,6 @@
 -- The bytes of a header block, and of the block of a run.
 -- Here a block is one formula of the whole run; the code takes entity after entity.
-use Rattle.std.specs.Prelude.{ℕ, List, [], ◌∷◌, ◌++◌, map, codes, Bool, false, ◌==◌, if◌then◌else◌}
-use Rattle.std.specs.List.{flat_map}
+use Rattle.std.specs.Prelude.{ℕ, List, [], ◌∷◌, map, codes, Bool, false, ◌==◌, if◌then◌else◌}
 use Rattle.osm_entity.specs.Entities.{EntityValue}
 use Rattle.osm_entity.specs.Items.{kind_of}
 use Rattle.osm_entity.specs.declared.kind.Kind.{Kind}

@@ -1,6 +1,6 @@
 -- Entities with numbers in the place of their texts.
 -- Here each number is that of a text in the whole table of the run; the code has it from the table so far.
-use Rattle.std.specs.Prelude.{ℕ, List, [], map, Bool, if◌then◌else◌}
+use Rattle.std.specs.Prelude.{ℕ, List, map, if◌then◌else◌}
 use Rattle.osm_entity.specs.Entities.{EntityValue}
 use Rattle.osm_entity.specs.declared.parts.Tag.{Tag}
 use Rattle.osm_block_write.specs.declared.options.PbfOptions.{PbfOptions}

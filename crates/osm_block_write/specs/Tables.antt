@@ -1,6 +1,6 @@
 -- String tables: which texts a block holds, and by which number each is named.
 -- Here a table is made of all texts at once; the code looks up each text as it comes.
-use Rattle.std.specs.Prelude.{ℕ, List, [], ◌∷◌, ◌++◌, map, Bool, not, if◌then◌else◌, bytes_eq}
+use Rattle.std.specs.Prelude.{ℕ, List, [], ◌∷◌, ◌++◌, map, not, if◌then◌else◌, bytes_eq}
 use Rattle.std.specs.List.{filter, flat_map, fold, list_any, position_or_len}
 use Rattle.osm_entity.specs.Entities.{EntityValue}
 use Rattle.osm_entity.specs.declared.parts.Body.{Body}

@@ -128,7 +128,11 @@ impl Column<Member> for MemberIds {
 }
 
 /// Appends a column of numbers of 64 bits, delta coded.
-pub(crate) fn append_deltas<T, C: Column<T>>(out: &mut Bytes, column: &C, items: &[T]) -> Result<(), NoMemory>
+pub(crate) fn append_deltas<T, C: Column<T>>(
+    out: &mut Bytes,
+    column: &C,
+    items: &[T],
+) -> Result<(), NoMemory>
     ensures ok { OnOk result (out.new ≡ out.old
         ++ packed (map zigzagged (deltas w64 (map (C.number_in column.now) items.now)))) }
 {

@@ -100,7 +100,15 @@ impl BlockMaker {
         if self.is_full(more) {
             return Err(AddError::Full);
         }
-        if take_entity(&mut self.taken, &mut self.room, &self.options, self.kind, entity).is_err() {
+        if take_entity(
+            &mut self.taken,
+            &mut self.room,
+            &self.options,
+            self.kind,
+            entity,
+        )
+        .is_err()
+        {
             return Err(AddError::Memory);
         }
         self.count += 1;
@@ -128,7 +136,14 @@ impl BlockMaker {
         ensures err { OnErr result (self.new ≡ self.old) }
     {
         let mut block = Bytes::new(self.alloc);
-        append_block(&mut block, &mut self.room, &self.options, self.kind, &self.taken, self.tagged)?;
+        append_block(
+            &mut block,
+            &mut self.room,
+            &self.options,
+            self.kind,
+            &self.taken,
+            self.tagged,
+        )?;
         self.count = 0;
         self.weight = 0;
         self.taken.texts.truncate(1);

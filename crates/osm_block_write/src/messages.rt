@@ -50,15 +50,39 @@ pub(crate) fn append_entity(
     room.message.truncate(0);
     match &entity.body {
         Body::Node(place) => {
-            append_node(&mut room.message, &mut room.part, texts, options, entity, place, user)?;
+            append_node(
+                &mut room.message,
+                &mut room.part,
+                texts,
+                options,
+                entity,
+                place,
+                user,
+            )?;
             put_bytes(out, 1, room.message.as_slice())
         }
         Body::Way(refs) => {
-            append_way(&mut room.message, &mut room.part, texts, options, entity, refs.as_slice(), user)?;
+            append_way(
+                &mut room.message,
+                &mut room.part,
+                texts,
+                options,
+                entity,
+                refs.as_slice(),
+                user,
+            )?;
             put_bytes(out, 3, room.message.as_slice())
         }
         Body::Relation(members) => {
-            append_relation(&mut room.message, &mut room.part, texts, options, entity, members.as_slice(), user)?;
+            append_relation(
+                &mut room.message,
+                &mut room.part,
+                texts,
+                options,
+                entity,
+                members.as_slice(),
+                user,
+            )?;
             put_bytes(out, 4, room.message.as_slice())
         }
     }

@@ -11,7 +11,11 @@ use osm_entity::{Body, Entity, Member, NoMemory, Tag};
 
 /// Puts the texts of an entity into the table, and gives the number of its user, or 0 where metadata
 /// is left out. At `Err` some of the texts may be there.
-pub(crate) fn take_texts(texts: &mut Table, options: &PbfOptions, entity: &Entity) -> Result<u32, NoMemory>
+pub(crate) fn take_texts(
+    texts: &mut Table,
+    options: &PbfOptions,
+    entity: &Entity,
+) -> Result<u32, NoMemory>
     requires { length texts.old < 2 ^ 31 }
     ensures user { IfOk result (λ user. user ≡ user_number options.now texts.old entity.now.user) }
     ensures small { IfOk result (λ user. user < 2 ^ 31) }

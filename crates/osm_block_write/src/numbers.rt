@@ -16,7 +16,12 @@ use osm_entity::{Bytes, Kind, Member, NoMemory, Tag};
 use osm_wire::put_varint;
 
 /// Appends the field of the keys of tags. `room` is emptied first.
-pub(crate) fn put_keys(out: &mut Bytes, room: &mut Bytes, texts: &Table, tags: &[Tag]) -> Result<(), NoMemory>
+pub(crate) fn put_keys(
+    out: &mut Bytes,
+    room: &mut Bytes,
+    texts: &Table,
+    tags: &[Tag],
+) -> Result<(), NoMemory>
     ensures ok { OnOk result (out.new ≡ out.old
         ++ written_message (packed_field 2 (map (λ t. t.key) (map (numbered_tag texts.now) tags.now)))) }
 {
@@ -28,7 +33,12 @@ pub(crate) fn put_keys(out: &mut Bytes, room: &mut Bytes, texts: &Table, tags: &
 }
 
 /// Appends the field of the values of tags. `room` is emptied first.
-pub(crate) fn put_values(out: &mut Bytes, room: &mut Bytes, texts: &Table, tags: &[Tag]) -> Result<(), NoMemory>
+pub(crate) fn put_values(
+    out: &mut Bytes,
+    room: &mut Bytes,
+    texts: &Table,
+    tags: &[Tag],
+) -> Result<(), NoMemory>
     ensures ok { OnOk result (out.new ≡ out.old
         ++ written_message (packed_field 3 (map (λ t. t.value) (map (numbered_tag texts.now) tags.now)))) }
 {
@@ -58,7 +68,11 @@ pub(crate) fn put_roles(
 
 /// Appends the field of the kinds of members: 0 for a node, 1 for a way, 2 for a relation. `room` is
 /// emptied first.
-pub(crate) fn put_kinds(out: &mut Bytes, room: &mut Bytes, members: &[Member]) -> Result<(), NoMemory>
+pub(crate) fn put_kinds(
+    out: &mut Bytes,
+    room: &mut Bytes,
+    members: &[Member],
+) -> Result<(), NoMemory>
     ensures ok { OnOk result (out.new ≡ out.old
         ++ written_message (packed_field 10 (map (λ m. kind_rank m.kind) members.now))) }
 {
@@ -85,7 +99,7 @@ pub(crate) fn put_versions(out: &mut Bytes, room: &mut Bytes, rows: &[Row]) -> R
 pub(crate) fn append_tags(out: &mut Bytes, texts: &Table, tags: &[Tag]) -> Result<(), NoMemory>
     ensures ok { OnOk result (out.new ≡ out.old
         ++ flat_map (λ tag. shortest_varint (number_in texts.now tag.key)
-            ++ shortest_varint (number_in texts.now tag.value)) tags.now) }
+        ++ shortest_varint (number_in texts.now tag.value)) tags.now) }
     ensures err { OnErr result (IsPrefix out.old out.new) }
 {
     for tag in tags {

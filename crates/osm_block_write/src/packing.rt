@@ -56,4 +56,3 @@ pub(crate) fn put_small_deltas<T, C: SmallColumn<T>>(
     append_small_deltas(room, column, items)?;
     put_packed(out, number, room.as_slice())
 }
-

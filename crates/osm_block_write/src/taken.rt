@@ -76,7 +76,9 @@ fn append(
     let user = take_texts(&mut taken.texts, options, entity)?;
     if is_dense(options, kind) {
         append_keys_vals(&mut taken.bytes, &taken.texts, entity.tags.as_slice())?;
-        taken.rows.push(row_of_node(options, &taken.texts, entity, user))
+        taken
+            .rows
+            .push(row_of_node(options, &taken.texts, entity, user))
     } else {
         append_entity(&mut taken.bytes, room, &taken.texts, options, entity, user)
     }

@@ -56,7 +56,7 @@ impl Table {
     pub(crate) fn number(&mut self, text: &[u8]) -> Result<usize, NoMemory>
         ensures number { IfOk result (λ n. n ≡ number_in self.old text.now) }
         ensures within { IfOk result (λ n. n ≤ length self.old) }
-    ensures ok { OnOk result (self.new ≡ with_text self.old text.now) }
+        ensures ok { OnOk result (self.new ≡ with_text self.old text.now) }
         ensures err { OnErr result (self.new ≡ self.old) }
     {
         match self.texts.get_index_of(text) {

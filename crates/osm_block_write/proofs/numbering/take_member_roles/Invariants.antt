@@ -1,7 +1,6 @@
 use Rattle.std.proofs.Common.{◌≡◌, drop, map}
-use Rattle.std.specs.List.{flat_map}
 use Rattle.osm_entity.specs.Prefixes.{IsPrefix}
-use Rattle.osm_block_write.specs.Tables.{tag_texts, with_texts}
+use Rattle.osm_block_write.specs.Tables.{with_texts}
 use Rattle.osm_block_write.proofs.numbering.take_member_roles.Given as goal
 
 abbrev pub invariant-loop-member : goal.invariant-loop-member

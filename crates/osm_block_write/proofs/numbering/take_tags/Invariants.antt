@@ -1,4 +1,4 @@
-use Rattle.std.proofs.Common.{◌≡◌, drop, map}
+use Rattle.std.proofs.Common.{◌≡◌, drop}
 use Rattle.std.specs.List.{flat_map}
 use Rattle.osm_entity.specs.Prefixes.{IsPrefix}
 use Rattle.osm_block_write.specs.Tables.{tag_texts, with_texts}

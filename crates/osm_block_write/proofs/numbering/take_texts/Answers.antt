@@ -14,5 +14,5 @@ returns-in_err-take_roles-clause-err c =
     (begins-onward old tags c.take_roles.new.texts
     (begins-onward old user tags
     (with_texts-begins_by old (user_texts c.args.options.now c.args.entity.now) user c.in_ok-user.ensures.ok)
-    (with_texts-begins_by user (flat_map tag_texts c.args.entity.now.tags) tags ?))
+    (with_texts-begins_by user (flat_map tag_texts c.as_slice.result.now) tags c.in_ok-take_tags.ensures.ok))
     c.in_err-take_roles.ensures.err)

@@ -5,5 +5,5 @@ use Rattle.osm_block_write.specs.Tables.{number_in}
 use Rattle.osm_block_write.proofs.numbers.put_keys.Given as goal
 
 abbrev pub invariant-loop-tag : goal.invariant-loop-tag
-invariant-loop-tag l = 
+invariant-loop-tag l =
     l.room ≡ flat_map (λ t. shortest_varint (number_in l.texts t.key)) (take l.tag-index l.tags)

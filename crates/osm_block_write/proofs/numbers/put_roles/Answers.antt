@@ -1,7 +1,6 @@
 use Rattle.std.proofs.Common.{map, ap, sym, ◌∙◌}
 use Rattle.std.proofs.lemmas.Simd.{map-map}
 use Rattle.osm_wire.specs.Written.{packed}
-use Rattle.osm_block_write.specs.Numbered.{numbered_tag}
 use Rattle.osm_block_write.specs.Tables.{number_in}
 use Rattle.osm_block_write.proofs.PackingLemmas.{packed-loop}
 use Rattle.osm_block_write.proofs.numbers.put_roles.Goals as goal

@@ -5,5 +5,5 @@ use Rattle.osm_block_write.specs.Tables.{number_in}
 use Rattle.osm_block_write.proofs.numbers.put_roles.Given as goal
 
 abbrev pub invariant-loop-member : goal.invariant-loop-member
-invariant-loop-member l = 
+invariant-loop-member l =
     l.room ≡ flat_map (λ m. shortest_varint (number_in l.texts m.role)) (take l.member-index l.members)

@@ -1,6 +1,5 @@
-use Rattle.std.proofs.Common.{◌≡◌, ◌++◌, [], ap, sym, ◌∙◌, append-nil}
+use Rattle.std.proofs.Common.{◌++◌, ap, sym, ◌∙◌, append-nil}
 use Rattle.osm_wire.specs.Written.{written_message}
-use Rattle.osm_block_write.specs.Columns.{packed_field}
 use Rattle.osm_block_write.proofs.PackingLemmas.{empty_from_length, packed_field-none}
 use Rattle.osm_block_write.proofs.packing.put_packed.Goals as goal
 

@@ -1,4 +1,4 @@
-use Rattle.std.proofs.Common.{◌≡◌, ◌∙◌, sym, ap, subst, true}
+use Rattle.std.proofs.Common.{◌∙◌, sym, ap, subst}
 use Rattle.std.specs.Prelude.{IsTrue}
 use Rattle.std.proofs.lemmas.Bool.{false≢true}
 use Rattle.osm_block_write.specs.Making.{Holds}
@@ -22,7 +22,7 @@ returns-clause-takes c = λ run h.
 pub invariant_of-self-2 : goal.invariant_of-self-2
 invariant_of-self-2 c =
     let m = maker_seen c.self.inside in
-    is_maker-more m c.args.entity.now c.weight-more.result c.take_entity.new.taken c.is_tagged.result
+    is_maker-more m c.args.entity.now c.weight-more.result c.take_entity.new.taken c.is_tagged-self-inside.result
     c.self.invariant c.weight-more.ensures.value
     (λ full. false≢true
     (subst IsTrue c.if-is_full.false
@@ -32,7 +32,7 @@ invariant_of-self-2 c =
 pub returns-clause-holds : goal.returns-clause-holds
 returns-clause-holds c = λ run h.
     let m = maker_seen c.self.inside in
-    holds-more m run c.args.entity.now c.weight-more.result c.take_entity.new.taken c.is_tagged.result
+    holds-more m run c.args.entity.now c.weight-more.result c.take_entity.new.taken c.is_tagged-self-inside.result
     (subst (λ m. Holds m run) (sym c.self.view_is) h) (c.requires ∙ ap (λ m. m.kind) (sym c.self.view_is))
     c.weight-more.ensures.value (from_no_err c.take_entity.result c.if-is_err.ensures.value c.take_entity.ensures.ok)
-    c.is_tagged.ensures
+    c.is_tagged-self-inside.ensures

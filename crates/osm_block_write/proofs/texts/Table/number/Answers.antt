@@ -1,4 +1,4 @@
-use Rattle.std.proofs.Common.{◌≡◌, ◌++◌, ◌∷◌, [], sym, ◌∙◌}
+use Rattle.std.proofs.Common.{sym, ◌∙◌}
 use Rattle.osm_block_write.proofs.TablesLemmas.{with_text-new}
 use Rattle.osm_block_write.proofs.TextsLemmas.{number-absent, number-found, table-found, table-lacks}
 use Rattle.osm_block_write.proofs.texts.Table.number.Goals as goal
@@ -26,7 +26,7 @@ returns-in_ok-push-in-None-clause-number c =
 
 pub returns-in_ok-push-in-None-clause-ok : goal.returns-in_ok-push-in-None-clause-ok
 returns-in_ok-push-in-None-clause-ok c =
-    c.in_ok-push.ensures.ok
+    c.in_ok-push-in-None.ensures.ok
     ∙ sym
     (with_text-new c.args.self.now c.args.text.now
     (table-lacks (λ v. v.items) c.self.inside.texts.keys c.args.self.now c.args.text.now c.self.view_is

@@ -1,4 +1,4 @@
-use Rattle.std.proofs.Common.{◌≡◌, sym, ◌∙◌}
+use Rattle.std.proofs.Common.{◌∙◌}
 use Rattle.osm_block_write.proofs.TextsLemmas.{number-absent, number-found}
 use Rattle.osm_block_write.proofs.texts.Table.number_of.Goals as goal
 

@@ -1,4 +1,4 @@
-use Rattle.std.proofs.Common.{◌≡◌, map, take, sym, ap, ◌∙◌}
+use Rattle.std.proofs.Common.{map, take, sym, ap, ◌∙◌}
 use Rattle.std.proofs.lemmas.List.{take-map}
 use Rattle.osm_block_write.proofs.texts.Table.truncate.Goals as goal
 
