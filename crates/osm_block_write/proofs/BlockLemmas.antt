@@ -11,7 +11,7 @@ use Rattle.osm_block_write.specs.declared.options.PbfOptions.{PbfOptions}
 use Rattle.osm_block_write.specs.Block.{block_bytes, granularity_field, group_fields, is_dense}
 use Rattle.osm_block_write.specs.Columns.{bytes_field, packed_field}
 use Rattle.osm_block_write.specs.Messages.{dense_fields, dense_info_fields, has_tags, keys_vals, keys_vals_field}
-use Rattle.osm_block_write.specs.Numbered.{Numbered, NumberedTag, numbered}
+use Rattle.osm_block_write.specs.Numbered.{Numbered, NumberedTag, with_numbers}
 use Rattle.osm_block_write.specs.Tables.{table_of}
 use Rattle.osm_block_write.specs.Taking.{block_of_taken, dense_of_rows, group_of_taken, info_of_rows, row_of, tags_packed, taken_by, taken_of, wanted_field}
 
@@ -43,10 +43,10 @@ dense_of_rows-of options nodes =
     rw (info_of_rows-of options nodes, tags) (simp map-map)
 
 -- whether an entity has tags stays where its texts get numbers
-has_tags-numbered : (options : PbfOptions) (table : List (List ℕ)) (run : List EntityValue) →
-    list_any (λ n. has_tags n.entity) (map (numbered options table) run) ≡ list_any has_tags run
-has_tags-numbered options table [] = refl
-has_tags-numbered options table (e ∷ run) = ap (λ b. has_tags e || b) (has_tags-numbered options table run)
+has_tags-with_numbers : (options : PbfOptions) (table : List (List ℕ)) (run : List EntityValue) →
+    list_any (λ n. has_tags n.entity) (map (with_numbers options table) run) ≡ list_any has_tags run
+has_tags-with_numbers options table [] = refl
+has_tags-with_numbers options table (e ∷ run) = ap (λ b. has_tags e || b) (has_tags-with_numbers options table run)
 
 -- the group of what was taken is that of the run
 group_of_taken-of : (dense : Bool) (options : PbfOptions) (table : List (List ℕ)) (run : List Numbered) →
@@ -61,10 +61,11 @@ pub block_of_taken-of : (options : PbfOptions) (kind : Kind) (run : List EntityV
     block_of_taken options kind (taken_of options kind run) (list_any has_tags run) ≡ block_bytes options kind run
 block_of_taken-of options kind run =
     let table = table_of options run in
-    let nodes = map (numbered options table) run in
+    let nodes = map (with_numbers options table) run in
     let dense = is_dense options kind in
     ap (λ group. written_message
     (bytes_field 1 (written_message (map (bytes_field 1) table)) ∷ bytes_field 2 group
     ∷ granularity_field options.granularity))
-    (ap (group_of_taken dense options (taken_by dense options table nodes)) (sym (has_tags-numbered options table run))
+    (ap (group_of_taken dense options (taken_by dense options table nodes))
+    (sym (has_tags-with_numbers options table run))
     ∙ group_of_taken-of dense options table nodes)

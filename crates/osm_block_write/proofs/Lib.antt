@@ -5,6 +5,7 @@ pub mod MakersLemmas
 pub mod PackingLemmas
 pub mod ResultLemmas
 pub mod RunsLemmas
+pub mod TableLawLemmas
 pub mod TablesLemmas
 pub mod TakingLemmas
 pub mod TextsLemmas

@@ -26,7 +26,8 @@ packed_field-none number (n ∷ more) none = absurd (shortest_varint-some n (pac
 pub packed-loop : {T : Type 0} (f : T → ℕ) (items : List T) (at : ℕ) (room : List ℕ) → length items ≤ at →
     room ≡ flat_map (λ x. shortest_varint (f x)) (take at items) → room ≡ packed (map f items)
 packed-loop f items at room past is =
-    is ∙ ap (flat_map (λ x. shortest_varint (f x))) (take_all at items past) ∙ sym (flat_map-map shortest_varint f items)
+    is ∙ ap (flat_map (λ x. shortest_varint (f x))) (take_all at items past)
+    ∙ sym (flat_map-map shortest_varint f items)
 
 -- the numbers of tags, packed pair by pair, and a 0
 pub keys_vals-packed : {T : Type 0} (f : T → NumberedTag) (tags : List T) (out : List ℕ) →

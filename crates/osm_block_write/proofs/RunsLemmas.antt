@@ -14,7 +14,7 @@ use Rattle.osm_entity.specs.declared.kind.Kind.{Kind}
 use Rattle.osm_entity.specs.declared.stream.End.{End}
 use Rattle.osm_entity.specs.declared.stream.End.TheVariants.{Done, Broken}
 use Rattle.osm_entity.specs.declared.kind.Kind.TheVariants.{Node, Way, Relation}
-use Rattle.osm_block_write.specs.Runs.{AreFull, AreRuns, IsFullBefore, IsRun, Runs, with_entity, with_entities, all_runs, AreLight, have_one_kind, greatest_run, no_runs, open_run, written_runs, runs_of, takes, total_weight}
+use Rattle.osm_block_write.specs.Runs.{AreFull, AreRuns, IsFullBefore, IsBlockRun, Runs, with_entity, with_entities, all_runs, AreLight, have_one_kind, greatest_run, no_runs, open_run, written_runs, runs_of, takes, total_weight}
 
 -- a kind is known by its rank
 same_kind : (a b : Kind) → kind_rank a ≡ kind_rank b → a ≡ b
@@ -78,7 +78,7 @@ kind_by entity (e ∷ run) alike =
 
 -- a run takes the next of its own entities
 takes-own : (limit : ℕ) (run : List EntityValue) (entity : EntityValue) (rest : List EntityValue) →
-    IsRun limit (run ++ entity ∷ rest) → takes limit run entity ≡ true
+    IsBlockRun limit (run ++ entity ∷ rest) → takes limit run entity ≡ true
 takes-own limit run entity rest is =
     let own : kind_of entity.body ≡ is.kind = all-middle (λ e. kind_of e.body ≡ is.kind) run entity rest is.alike in
     let few : length run < limit = omega (arith, is.few, length-append run (entity ∷ rest)) in
@@ -101,7 +101,7 @@ push-some (e ∷ run) entity none = cc
 
 -- a run that takes an entity is a run with it
 takes-run : (limit : ℕ) (run : List EntityValue) (entity : EntityValue) → takes limit run entity ≡ true →
-    IsRun limit (run ++ entity ∷ [])
+    IsBlockRun limit (run ++ entity ∷ [])
 takes-run limit run entity is =
     let parts = and_parts (list_all (have_one_kind entity) run && nat_lt (length run) limit)
     (nat_le (total_weight run + weight_of entity) greatest_run) is in
@@ -118,7 +118,7 @@ takes-run limit run entity is =
     }
 
 -- a run that is full before an entity doesn't take it
-takes-full : (limit : ℕ) (run : List EntityValue) (entity : EntityValue) → (IsRun limit (run ++ entity ∷ []) → ⊥) →
+takes-full : (limit : ℕ) (run : List EntityValue) (entity : EntityValue) → (IsBlockRun limit (run ++ entity ∷ []) → ⊥) →
     takes limit run entity ≡ false
 takes-full limit run entity full =
     cond_both (takes limit run entity) true false (λ _. takes limit run entity ≡ false)
@@ -152,16 +152,16 @@ takes_rest limit closed opened (entity ∷ rest) own =
 
 -- a run takes all its own entities
 takes_run : (limit : ℕ) (closed : List (List EntityValue)) (opened rest : List EntityValue) →
-    IsRun limit (opened ++ rest) →
+    IsBlockRun limit (opened ++ rest) →
     with_entities limit (record { closed = closed; opened = opened }) rest
     ≡ record { closed = closed; opened = opened ++ rest }
 takes_run limit closed opened rest is =
     takes_rest limit closed opened rest
-    (λ first entity last same. takes-own limit first entity last (subst (IsRun limit) same is))
+    (λ first entity last same. takes-own limit first entity last (subst (IsBlockRun limit) same is))
 
 -- the runs behind an open one
 only_behind : (limit : ℕ) (closed : List (List EntityValue)) (run : List EntityValue)
-    (runs : List (List EntityValue)) → AllByRecursion (IsRun limit) (run ∷ runs) → AreFull limit (run ∷ runs) →
+    (runs : List (List EntityValue)) → AllByRecursion (IsBlockRun limit) (run ∷ runs) → AreFull limit (run ∷ runs) →
     all_runs (with_entities limit (record { closed = closed; opened = run }) (flat_map (λ r. r) runs))
     ≡ closed ++ run ∷ runs
 only_behind limit closed [] runs good full = absurd (good.0.some refl)
@@ -240,8 +240,8 @@ are_taken limit done closed (x ∷ opened) entity are first is = record {
       joined-push closed (x ∷ opened ++ entity ∷ [])
       ∙ sym (append_assoc (flat_map (λ r. r) closed) (x ∷ opened) (entity ∷ []))
       ∙ ap (λ d. d ++ entity ∷ []) (sym (joined-push closed (x ∷ opened)) ∙ are.joined);
-  good = all-push (IsRun limit) closed (x ∷ opened ++ entity ∷ [])
-      (all-append (IsRun limit) closed ((x ∷ opened) ∷ []) are.good) (takes-run limit (x ∷ opened) entity is);
+  good = all-push (IsBlockRun limit) closed (x ∷ opened ++ entity ∷ [])
+      (all-append (IsBlockRun limit) closed ((x ∷ opened) ∷ []) are.good) (takes-run limit (x ∷ opened) entity is);
   full = full-first limit closed x opened (opened ++ entity ∷ []) are.full;
 }
 
@@ -255,15 +255,15 @@ are_closed limit done closed [] entity some light are is =
     let own : takes limit [] entity ≡ true = takes-alone limit entity some light in
     absurd (false≢true (sym is ∙ own))
 are_closed limit done closed (x ∷ opened) entity some light are is =
-    let alone : IsRun limit (entity ∷ []) = takes-run limit [] entity (takes-alone limit entity some light) in
+    let alone : IsBlockRun limit (entity ∷ []) = takes-run limit [] entity (takes-alone limit entity some light) in
     subst (AreRuns limit (done ++ entity ∷ [])) (sym (append_assoc closed ((x ∷ opened) ∷ []) ((entity ∷ []) ∷ [])))
     (record {
       joined =
           ap (flat_map (λ r. r)) (sym (append_assoc closed ((x ∷ opened) ∷ []) ((entity ∷ []) ∷ [])))
           ∙ joined-push (closed ++ (x ∷ opened) ∷ []) (entity ∷ [])
           ∙ ap (λ d. d ++ entity ∷ []) are.joined;
-      good = subst (AllByRecursion (IsRun limit)) (append_assoc closed ((x ∷ opened) ∷ []) ((entity ∷ []) ∷ []))
-          (all-push (IsRun limit) (closed ++ (x ∷ opened) ∷ []) (entity ∷ []) are.good alone);
+      good = subst (AllByRecursion (IsBlockRun limit)) (append_assoc closed ((x ∷ opened) ∷ []) ((entity ∷ []) ∷ []))
+          (all-push (IsBlockRun limit) (closed ++ (x ∷ opened) ∷ []) (entity ∷ []) are.good alone);
       full = full-push limit closed (x ∷ opened) (entity ∷ []) are.full
           (λ run. false≢true (sym is ∙ takes-own limit (x ∷ opened) entity [] run));
     })
@@ -339,7 +339,8 @@ closed-with_entities limit r (entity ∷ entities) =
 
 -- the closed runs of a front are the first of those of the whole
 pub runs_grow : (limit : ℕ) (entities more : List EntityValue) →
-    (rest : List (List EntityValue)) × ((runs_of limit (entities ++ more)).closed ≡ (runs_of limit entities).closed ++ rest)
+    (rest : List (List EntityValue))
+    × ((runs_of limit (entities ++ more)).closed ≡ (runs_of limit entities).closed ++ rest)
 unfolding runs_of
 runs_grow limit entities more =
     let grown = closed-with_entities limit (with_entities limit no_runs entities) more in

@@ -15,7 +15,7 @@ use Rattle.osm_entity.specs.declared.parts.Member.{Member}
 use Rattle.osm_entity.specs.declared.parts.Tag.{Tag}
 use Rattle.osm_block_write.specs.declared.options.PbfOptions.{PbfOptions}
 use Rattle.osm_block_write.proofs.ListLemmas.{begins-onward, drop-next}
-use Rattle.osm_block_write.specs.Tables.{first_uses, number_in, role_texts, string_table, tag_texts, texts_of, user_texts, with_text, with_texts, without}
+use Rattle.osm_block_write.specs.Tables.{first_uses, text_number, role_texts, string_table, tag_texts, texts_of, user_texts, with_text, with_texts, without}
 
 -- whether a text is in a table
 abbrev pub is_in : List (List ℕ) → List ℕ → Bool
@@ -194,19 +194,19 @@ AreIn-append table (text ∷ first) last first_are last_are =
     (first_are.0, AreIn-append table first last first_are.1 last_are)
 
 -- the number of a text that is in a table stays as the table grows
-number_in-append : (table more : List (List ℕ)) (text : List ℕ) → is_in table text ≡ true →
-    number_in (table ++ more) text ≡ number_in table text
-number_in-append [] more text is = absurd (false≢true is)
-number_in-append (first ∷ table) more text is =
+text_number-append : (table more : List (List ℕ)) (text : List ℕ) → is_in table text ≡ true →
+    text_number (table ++ more) text ≡ text_number table text
+text_number-append [] more text is = absurd (false≢true is)
+text_number-append (first ∷ table) more text is =
     cond_both (bytes_eq text first) true false
-    (λ _. number_in (first ∷ table ++ more) text ≡ number_in (first ∷ table) text) (λ same. rw same refl)
-    (λ not. rw not (ap (λ n. 1 + n) (number_in-append table more text (sym (rw not refl) ∙ is))))
+    (λ _. text_number (first ∷ table ++ more) text ≡ text_number (first ∷ table) text) (λ same. rw same refl)
+    (λ not. rw not (ap (λ n. 1 + n) (text_number-append table more text (sym (rw not refl) ∙ is))))
 
 -- the number of a text that is in a table is its number in every one that begins with it
-pub number_in-begins : (table new : List (List ℕ)) (text : List ℕ) → IsPrefix table new → is_in table text ≡ true →
-    number_in new text ≡ number_in table text
-number_in-begins table new text begins is =
-    ap (λ t. number_in t text) begins.joined ∙ number_in-append table begins.rest text is
+pub text_number-begins : (table new : List (List ℕ)) (text : List ℕ) → IsPrefix table new → is_in table text ≡ true →
+    text_number new text ≡ text_number table text
+text_number-begins table new text begins is =
+    ap (λ t. text_number t text) begins.joined ∙ text_number-append table begins.rest text is
 
 -- a table that begins with the empty text does so with a text more
 headed-with_text : (table : List (List ℕ)) (text : List ℕ) → take 1 table ≡ [] ∷ [] →
@@ -291,8 +291,8 @@ texts-bytes options e = omega (
 )
 
 -- the number of a text is no more than the table's length
-pub number_in-within : (table : List (List ℕ)) (text : List ℕ) → number_in table text ≤ length table
-number_in-within table text = prefix_len-le-length (λ t. not (bytes_eq text t)) table
+pub text_number-within : (table : List (List ℕ)) (text : List ℕ) → text_number table text ≤ length table
+text_number-within table text = prefix_len-le-length (λ t. not (bytes_eq text t)) table
 
 -- a table with texts more, as it was made, begins with what it was
 pub with_texts-begins_by : (table texts new : List (List ℕ)) → new ≡ with_texts table texts → IsPrefix table new
@@ -313,14 +313,15 @@ pub with_text-begins_by : (table : List (List ℕ)) (text : List ℕ) (new : Lis
 with_text-begins_by table text new is = subst (IsPrefix table) (sym is) (with_text-begins table text)
 
 -- a text at the end of a table has the number that it had where it wasn't there
-number_in-last : (table : List (List ℕ)) (text : List ℕ) → number_in (table ++ text ∷ []) text ≡ number_in table text
-number_in-last [] text = rw (bytes_eq-self text) refl
-number_in-last (first ∷ table) text =
-    ap (λ n. cond (not (bytes_eq text first)) (1 + n) 0) (number_in-last table text)
+text_number-last : (table : List (List ℕ)) (text : List ℕ) →
+    text_number (table ++ text ∷ []) text ≡ text_number table text
+text_number-last [] text = rw (bytes_eq-self text) refl
+text_number-last (first ∷ table) text =
+    ap (λ n. cond (not (bytes_eq text first)) (1 + n) 0) (text_number-last table text)
 
 -- a text has the number that it had before it was put into the table
-pub number_in-with_text : (table : List (List ℕ)) (text : List ℕ) →
-    number_in (with_text table text) text ≡ number_in table text
-number_in-with_text table text =
-    cond_both (is_in table text) table (table ++ text ∷ []) (λ new. number_in new text ≡ number_in table text)
-    (λ _. refl) (λ _. number_in-last table text)
+pub text_number-with_text : (table : List (List ℕ)) (text : List ℕ) →
+    text_number (with_text table text) text ≡ text_number table text
+text_number-with_text table text =
+    cond_both (is_in table text) table (table ++ text ∷ []) (λ new. text_number new text ≡ text_number table text)
+    (λ _. refl) (λ _. text_number-last table text)

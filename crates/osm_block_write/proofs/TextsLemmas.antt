@@ -9,15 +9,15 @@ use Rattle.std.proofs.lemmas.List.Sums.{prefix_len-le-length}
 use Rattle.indexmap.specs.IndexSet.{insert_key}
 use Rattle.osm_wire.specs.Written.{written_field, written_message}
 use Rattle.osm_block_write.specs.Columns.{bytes_field}
-use Rattle.osm_block_write.specs.Tables.{number_in, with_text}
+use Rattle.osm_block_write.specs.Tables.{text_number, with_text}
 use Rattle.osm_block_write.proofs.TablesLemmas.{with_text-known}
 
 module _ {K : Type 0} (held : K → List ℕ) where
   -- the place of a text among keys is that among the texts that they hold
-  number_in-map : (keys : List K) (text : List ℕ) →
-      number_in (map held keys) text ≡ position_or_len (λ k. bytes_eq text (held k)) keys
-  number_in-map [] text = refl
-  number_in-map (k ∷ keys) text = ap (λ n. cond (not (bytes_eq text (held k))) (1 + n) 0) (number_in-map keys text)
+  text_number-map : (keys : List K) (text : List ℕ) →
+      text_number (map held keys) text ≡ position_or_len (λ k. bytes_eq text (held k)) keys
+  text_number-map [] text = refl
+  text_number-map (k ∷ keys) text = ap (λ n. cond (not (bytes_eq text (held k))) (1 + n) 0) (text_number-map keys text)
 
   -- whether a key holds a text
   is_in-map : (keys : List K) (text : List ℕ) →
@@ -27,15 +27,16 @@ module _ {K : Type 0} (held : K → List ℕ) where
 
   -- the place at which a text is found is its number
   pub number-found : (keys : List K) (table : List (List ℕ)) (text : List ℕ) (n : ℕ) → map held keys ≡ table →
-      Some n ≡ position (λ k. bytes_eq text (held k)) keys → n ≡ number_in table text
+      Some n ≡ position (λ k. bytes_eq text (held k)) keys → n ≡ text_number table text
   number-found keys table text n holds found =
       let place = position_or_len (λ k. bytes_eq text (held k)) keys in
-      cond_both (nat_lt place (length keys)) (Some place) None (λ r. Some n ≡ r → n ≡ place) (λ _ e. cc) (λ _ e. cc) found
-      ∙ sym (number_in-map keys text) ∙ ap (λ t. number_in t text) holds
+      cond_both (nat_lt place (length keys)) (Some place) None (λ r. Some n ≡ r → n ≡ place) (λ _ e. cc)
+      (λ _ e. cc) found
+      ∙ sym (text_number-map keys text) ∙ ap (λ t. text_number t text) holds
 
   -- the number of a text that isn't found is how many there are
   pub number-absent : (keys : List K) (table : List (List ℕ)) (text : List ℕ) → map held keys ≡ table →
-      None ≡ position (λ k. bytes_eq text (held k)) keys → length keys ≡ number_in table text
+      None ≡ position (λ k. bytes_eq text (held k)) keys → length keys ≡ text_number table text
   number-absent keys table text holds absent =
       let place = position_or_len (λ k. bytes_eq text (held k)) keys in
       cond_both (nat_lt place (length keys)) (Some place) None (λ r. None ≡ r → length keys ≡ place) (λ _ e. cc)
@@ -43,7 +44,7 @@ module _ {K : Type 0} (held : K → List ℕ) where
         arith,
         ltb-false place (length keys) past,
         prefix_len-le-length (λ k. not (bytes_eq text (held k))) keys,
-      )) absent ∙ sym (number_in-map keys text) ∙ ap (λ t. number_in t text) holds
+      )) absent ∙ sym (text_number-map keys text) ∙ ap (λ t. text_number t text) holds
 
   -- a text that is found leaves the table as it is
   pub table-found : (keys : List K) (table : List (List ℕ)) (text : List ℕ) → map held keys ≡ table →

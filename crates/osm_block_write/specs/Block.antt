@@ -10,7 +10,7 @@ use Rattle.osm_wire.specs.Written.{written_message}
 use Rattle.osm_block_write.specs.declared.options.PbfOptions.{PbfOptions}
 use Rattle.osm_block_write.specs.Columns.{bytes_field, number_field}
 use Rattle.osm_block_write.specs.Messages.{dense_fields, entity_field}
-use Rattle.osm_block_write.specs.Numbered.{Numbered, numbered}
+use Rattle.osm_block_write.specs.Numbered.{Numbered, with_numbers}
 use Rattle.osm_block_write.specs.Tables.{table_of}
 
 -- the feature of dense nodes; none where they aren't used
@@ -46,7 +46,8 @@ granularity_field granularity = if granularity == 100 then [] else number_field 
 abbrev pub block_fields : PbfOptions → Kind → List (List ℕ) → List EntityValue → List FieldValue
 block_fields options kind table run =
     bytes_field 1 (written_message (map (bytes_field 1) table))
-    ∷ bytes_field 2 (written_message (group_fields (is_dense options kind) options (map (numbered options table) run)))
+    ∷ bytes_field 2
+    (written_message (group_fields (is_dense options kind) options (map (with_numbers options table) run)))
     ∷ granularity_field options.granularity
 
 -- the bytes of the block of a run of this kind

@@ -10,7 +10,7 @@ use Rattle.osm_block_write.specs.Messages.{has_tags}
 use Rattle.osm_block_write.specs.Runs.{AreOfKind, greatest_run, total_weight}
 use Rattle.osm_block_write.specs.Taking.{taken_of}
 
--- a maker: its options and kind, how many entities it took and what they weigh, what it has of them, and if one has tags
+-- a maker: its options and kind, the number and the weight of its entities, what it has of them, and if one has tags
 pub record MakerValue : Type 0 where
   pub options : PbfOptions
   pub kind : Kind

@@ -22,7 +22,7 @@ abbrev pub AreOfKind : Kind → List EntityValue → Type 0
 AreOfKind kind run = AllByRecursion (λ e. kind_of e.body ≡ kind) run
 
 -- a run: some entities of one kind, no more than the limit, that aren't too heavy together
-pub record IsRun (limit : ℕ) (run : List EntityValue) : Type 0 where
+pub record IsBlockRun (limit : ℕ) (run : List EntityValue) : Type 0 where
   pub some : run ≢ []
   pub kind : Kind
   pub alike : AreOfKind kind run
@@ -32,7 +32,7 @@ pub record IsRun (limit : ℕ) (run : List EntityValue) : Type 0 where
 -- a run with the first entity of the next one would be none
 abbrev pub IsFullBefore : ℕ → List EntityValue → List EntityValue → Type 0
 IsFullBefore limit run [] = ⊤
-IsFullBefore limit run (entity ∷ next) = IsRun limit (run ++ entity ∷ []) → ⊥
+IsFullBefore limit run (entity ∷ next) = IsBlockRun limit (run ++ entity ∷ []) → ⊥
 
 -- each run but the last is full before the next
 abbrev pub AreFull : ℕ → List (List EntityValue) → Type 0
@@ -43,7 +43,7 @@ AreFull limit (run ∷ next ∷ runs) = IsFullBefore limit run next × AreFull l
 -- the runs of entities: joined they are the entities, each is a run, and each but the last is full before the next
 pub record AreRuns (limit : ℕ) (entities : List EntityValue) (runs : List (List EntityValue)) : Type 0 where
   pub joined : flat_map (λ run. run) runs ≡ entities
-  pub good : AllByRecursion (IsRun limit) runs
+  pub good : AllByRecursion (IsBlockRun limit) runs
   pub full : AreFull limit runs
 
 -- whether two entities have one kind

@@ -30,8 +30,8 @@ abbrev pub with_texts : List (List ℕ) → List (List ℕ) → List (List ℕ)
 with_texts table texts = fold with_text table texts
 
 -- the number of a text in a table: how many texts stand before it
-abbrev pub number_in : List (List ℕ) → List ℕ → ℕ
-number_in table text = position_or_len (bytes_eq text) table
+abbrev pub text_number : List (List ℕ) → List ℕ → ℕ
+text_number table text = position_or_len (bytes_eq text) table
 
 -- the texts of a tag: its key, and then its value
 abbrev pub tag_texts : Tag → List (List ℕ)

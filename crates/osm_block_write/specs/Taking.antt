@@ -13,7 +13,7 @@ use Rattle.osm_block_write.specs.declared.taken.Taken.{Taken}
 use Rattle.osm_block_write.specs.Block.{granularity_field, is_dense}
 use Rattle.osm_block_write.specs.Columns.{bytes_field, delta_field, packed_field}
 use Rattle.osm_block_write.specs.Messages.{entity_field, info_field, keys_vals, lat_in, lon_in, place_in}
-use Rattle.osm_block_write.specs.Numbered.{Numbered, numbered}
+use Rattle.osm_block_write.specs.Numbered.{Numbered, with_numbers}
 use Rattle.osm_block_write.specs.Tables.{table_of, texts_of, with_texts}
 
 -- the numbers of a dense node
@@ -44,7 +44,8 @@ taken_by dense options table run = record {
 -- what is taken of a run of this kind
 abbrev pub taken_of : PbfOptions → Kind → List EntityValue → Taken
 taken_of options kind run =
-    taken_by (is_dense options kind) options (table_of options run) (map (numbered options (table_of options run)) run)
+    let table = table_of options run in
+    taken_by (is_dense options kind) options table (map (with_numbers options table) run)
 
 -- what is taken with an entity more, by a string table that has its texts
 abbrev pub with_numbered : Bool → PbfOptions → Taken → List (List ℕ) → Numbered → Taken
@@ -58,7 +59,7 @@ with_numbered dense options taken table n = record {
 abbrev pub with_taken : PbfOptions → Kind → Taken → EntityValue → Taken
 with_taken options kind taken e =
     let table = with_texts taken.texts (texts_of options e) in
-    with_numbered (is_dense options kind) options taken table (numbered options table e)
+    with_numbered (is_dense options kind) options taken table (with_numbers options table e)
 
 -- the metadata of dense nodes by their rows
 abbrev pub info_of_rows : List Row → List FieldValue

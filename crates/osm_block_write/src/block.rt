@@ -25,7 +25,8 @@ pub(crate) fn append_block(
     taken: &Taken,
     tagged: bool,
 ) -> Result<(), NoMemory>
-    ensures ok { OnOk result (out.new ≡ out.old ++ block_of_taken options.now kind taken.now tagged) }
+    ensures ok { OnOk result (out.new ≡ out.old
+        ++ block_of_taken options.now kind taken.now tagged) }
 {
     put_table(out, &mut room.part, &taken.texts)?;
     put_group(out, room, options, kind, taken, tagged)?;
@@ -54,7 +55,8 @@ fn put_group(
     tagged: bool,
 ) -> Result<(), NoMemory>
     ensures ok { OnOk result (out.new ≡ out.old
-        ++ written_field (bytes_field 2 (group_of_taken (is_dense options.now kind) options.now taken.now tagged))) }
+        ++ written_field (bytes_field 2
+        (group_of_taken (is_dense options.now kind) options.now taken.now tagged))) }
 {
     if !is_dense(options, kind) {
         return put_bytes(out, 2, taken.bytes.as_slice());
@@ -76,7 +78,8 @@ fn put_group(
 
 // Appends the field of the granularity, where it isn't the one that readers take without it.
 fn put_granularity(out: &mut Bytes, granularity: u32) -> Result<(), NoMemory>
-    ensures ok { OnOk result (out.new ≡ out.old ++ written_message (granularity_field granularity)) }
+    ensures ok { OnOk result (out.new ≡ out.old
+        ++ written_message (granularity_field granularity)) }
 {
     if granularity == 100 {
         return Ok(());

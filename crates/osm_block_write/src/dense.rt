@@ -6,7 +6,7 @@ ghost use Rattle.std.specs.Prelude.{◌≡◌, ◌<◌, ◌^◌, ◌++◌, ◌�
 ghost use Rattle.osm_entity.specs.Prefixes.{IsPrefix};
 ghost use Rattle.osm_wire.specs.Written.{packed, written_message};
 ghost use Rattle.osm_block_write.specs.Messages.{info_field, keys_vals, place_in};
-ghost use Rattle.osm_block_write.specs.Numbered.{numbered, numbered_tag, user_number};
+ghost use Rattle.osm_block_write.specs.Numbered.{with_numbers, numbered_tag, user_number};
 ghost use Rattle.osm_block_write.specs.Taking.{dense_of_rows, info_of_rows, row_of, wanted_field};
 
 use crate::columns::{Changesets, Ids, Lats, Lons, Times, Uids, Users};
@@ -23,7 +23,7 @@ use osm_wire::{put_bytes, put_varint};
 pub(crate) fn row_of_node(options: &PbfOptions, texts: &Table, entity: &Entity, user: u32) -> Row
     requires small { user < 2 ^ 31 }
     requires user { user ≡ user_number options.now texts.now entity.now.user }
-    ensures { result ≡ row_of options.now (numbered options.now texts.now entity.now) }
+    ensures { result ≡ row_of options.now (with_numbers options.now texts.now entity.now) }
 {
     entity.kept();
     let place = place_of(&entity.body);
@@ -49,10 +49,11 @@ fn place_of(body: &Body) -> Option<Place>
     }
 }
 
-/// Appends the tags of a node: the numbers of each key and value, and then a 0. At `Err` some of them
-/// may be appended.
+/// Appends the tags of a node: the numbers of each key and value, and then a 0. At `Err` some of
+/// them may be appended.
 pub(crate) fn append_keys_vals(out: &mut Bytes, texts: &Table, tags: &[Tag]) -> Result<(), NoMemory>
-    ensures ok { OnOk result (out.new ≡ out.old ++ packed (keys_vals (map (numbered_tag texts.now) tags.now))) }
+    ensures ok { OnOk result (out.new ≡ out.old
+        ++ packed (keys_vals (map (numbered_tag texts.now) tags.now))) }
     ensures err { OnErr result (IsPrefix out.old out.new) }
 {
     append_tags(out, texts, tags)?;
@@ -82,7 +83,8 @@ pub(crate) fn append_dense(
 
 // Appends the tags of dense nodes, where they are wanted.
 fn put_tags(out: &mut Bytes, tagged: bool, tags: &[u8]) -> Result<(), NoMemory>
-    ensures ok { OnOk result (out.new ≡ out.old ++ written_message (wanted_field tagged 10 tags.now)) }
+    ensures ok { OnOk result (out.new ≡ out.old
+        ++ written_message (wanted_field tagged 10 tags.now)) }
 {
     if !tagged {
         return Ok(());
@@ -98,7 +100,8 @@ fn put_info(
     options: &PbfOptions,
     rows: &[Row],
 ) -> Result<(), NoMemory>
-    ensures ok { OnOk result (out.new ≡ out.old ++ written_message (info_field options.now 5 (info_of_rows rows.now))) }
+    ensures ok { OnOk result (out.new ≡ out.old
+        ++ written_message (info_field options.now 5 (info_of_rows rows.now))) }
 {
     if options.omitmetadata {
         return Ok(());

@@ -10,8 +10,8 @@ use osm_entity::{Bytes, NoMemory};
 use osm_wire::put_bytes;
 use std::alloc::Global;
 
-/// The header block of a file. It asks readers for the schema `OsmSchema-V0.6`, and for `DenseNodes`
-/// where nodes are written densely.
+/// The header block of a file. It asks readers for the schema `OsmSchema-V0.6`, and for
+/// `DenseNodes` where nodes are written densely.
 pub fn header(alloc: Global, options: &PbfOptions) -> Result<Bytes, NoMemory>
     ensures { IfOk result (λ block. block ≡ header_bytes options.now) }
 {
@@ -23,7 +23,8 @@ pub fn header(alloc: Global, options: &PbfOptions) -> Result<Bytes, NoMemory>
 
 // Appends the feature of dense nodes, where they are used.
 fn put_dense(block: &mut Bytes, options: &PbfOptions) -> Result<(), NoMemory>
-    ensures ok { OnOk result (block.new ≡ block.old ++ written_message (dense_feature options.now)) }
+    ensures ok { OnOk result (block.new ≡ block.old
+        ++ written_message (dense_feature options.now)) }
 {
     if !options.usedense {
         return Ok(());

@@ -20,6 +20,6 @@ mod taken;
 mod texts;
 
 pub use heading::header;
-pub use laws::runs_are_one_list;
+pub use laws::{runs_are_one_list, tables_name_their_texts};
 pub use maker::{AddError, BlockMaker};
 pub use options::PbfOptions;

@@ -1,4 +1,5 @@
-//! The maker of a block: it takes entities of one kind until their run is full, and gives their block.
+//! The maker of a block: it takes entities of one kind until their run is full, and gives their
+//! block.
 ghost use Rattle.std.specs.Prelude.{◌≡◌, ◌≤◌, ◌<◌, ◌+◌, ◌++◌, ◌∷◌, [], ◌||◌, ◌⊎◌, ◌↔◌, List, false, Err, IfOk, OnOk, OnErr, IsTrue};
 ghost use Rattle.osm_entity.specs.Entities.{EntityValue, weight_of, greatest_weight};
 ghost use Rattle.osm_entity.specs.Items.{kind_of};
@@ -29,8 +30,8 @@ pub enum AddError {
     Memory,
 }
 
-/// Makes the blocks of runs of one kind, one after the other. It keeps nothing of an entity but what
-/// its block needs.
+/// Makes the blocks of runs of one kind, one after the other. It keeps nothing of an entity but
+/// what its block needs.
 #[derive(Drop)]
 pub struct BlockMaker {
     alloc: Global,
@@ -82,11 +83,11 @@ impl BlockMaker {
         })
     }
 
-    /// Takes an entity of its kind. `Full` exactly where it holds `batchlimit` entities, or where they
-    /// would weigh more than 16,777,216 together. At `Err` it is as it was.
+    /// Takes an entity of its kind. `Full` exactly where it holds `batchlimit` entities, or where
+    /// they would weigh more than 16,777,216 together. At `Err` it is as it was.
     pub fn add(&mut self, entity: &Entity) -> Result<(), AddError>
         requires { kind_of entity.now.body ≡ self.old.kind }
-        ensures full { result ≡ Err Full ↔ ((self.old.options.batchlimit ≤ self.old.count)
+        ensures refused { result ≡ Err Full ↔ ((self.old.options.batchlimit ≤ self.old.count)
             ⊎ (greatest_run < self.old.weight + weight_of entity.now)) }
         ensures takes { (run : List EntityValue) → Holds self.old run →
             result ≡ Err Full ↔ takes self.old.options.batchlimit run entity.now ≡ false }
@@ -126,7 +127,8 @@ impl BlockMaker {
         self.count >= self.options.batchlimit || self.weight + more > GREATEST_RUN
     }
 
-    /// The block of the entities that it took; it is without entities then. At `Err` it is as it was.
+    /// The block of the entities that it took, after which it is without entities. At `Err` it is
+    /// as it was.
     pub fn finish(&mut self) -> Result<Bytes, NoMemory>
         ensures block { (run : List EntityValue) → Holds self.old run →
             IfOk result (λ block. block ≡ block_bytes self.old.options self.old.kind run) }

@@ -9,7 +9,7 @@ ghost use Rattle.osm_wire.specs.Integers.{zigzagged};
 ghost use Rattle.osm_wire.specs.Written.{packed, written_field, written_message};
 ghost use Rattle.osm_block_write.specs.Columns.{number_field};
 ghost use Rattle.osm_block_write.specs.Messages.{body_field, described, entity_field, info_field, info_fields, lat_in, lon_in, node_fields, relation_fields, way_fields};
-ghost use Rattle.osm_block_write.specs.Numbered.{numbered, user_number};
+ghost use Rattle.osm_block_write.specs.Numbered.{with_numbers, user_number};
 ghost use Rattle.osm_entity.specs.declared.parts.Body.TheVariants.{Relation as OfMembers};
 
 use crate::columns::{MemberIds, WayRefs};
@@ -44,7 +44,8 @@ pub(crate) fn append_entity(
 ) -> Result<(), NoMemory>
     requires { user ≡ user_number options.now texts.now entity.now.user }
     ensures ok { OnOk result (out.new ≡ out.old
-        ++ written_field (entity_field options.now (numbered options.now texts.now entity.now))) }
+        ++ written_field
+        (entity_field options.now (with_numbers options.now texts.now entity.now))) }
     ensures err { OnErr result (out.new ≡ out.old) }
 {
     room.message.truncate(0);
@@ -100,7 +101,7 @@ fn append_node(
 ) -> Result<(), NoMemory>
     requires { user ≡ user_number options.now texts.now entity.now.user }
     ensures ok { OnOk result (out.new ≡ out.old ++ written_message
-        (node_fields options.now place.now (numbered options.now texts.now entity.now))) }
+        (node_fields options.now place.now (with_numbers options.now texts.now entity.now))) }
 {
     put_number(out, 1, zigzag(entity.id))?;
     append_described(out, room, texts, options, entity, user)?;
@@ -120,7 +121,7 @@ fn append_way(
 ) -> Result<(), NoMemory>
     requires { user ≡ user_number options.now texts.now entity.now.user }
     ensures ok { OnOk result (out.new ≡ out.old ++ written_message
-        (way_fields options.now refs.now (numbered options.now texts.now entity.now))) }
+        (way_fields options.now refs.now (with_numbers options.now texts.now entity.now))) }
 {
     put_number(out, 1, entity.id.cast_unsigned())?;
     append_described(out, room, texts, options, entity, user)?;
@@ -140,7 +141,7 @@ fn append_relation(
     requires user { user ≡ user_number options.now texts.now entity.now.user }
     requires body { entity.now.body ≡ OfMembers members.now }
     ensures ok { OnOk result (out.new ≡ out.old ++ written_message
-        (relation_fields options.now members.now (numbered options.now texts.now entity.now))) }
+        (relation_fields options.now members.now (with_numbers options.now texts.now entity.now))) }
 {
     put_number(out, 1, entity.id.cast_unsigned())?;
     append_described(out, room, texts, options, entity, user)?;
@@ -160,7 +161,7 @@ fn append_described(
 ) -> Result<(), NoMemory>
     requires { user ≡ user_number options.now texts.now entity.now.user }
     ensures ok { OnOk result (out.new ≡ out.old ++ written_message
-        (described options.now (numbered options.now texts.now entity.now))) }
+        (described options.now (with_numbers options.now texts.now entity.now))) }
 {
     let tags = entity.tags.as_slice();
     put_keys(out, room, texts, tags)?;

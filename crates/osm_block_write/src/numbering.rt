@@ -9,8 +9,8 @@ use crate::options::PbfOptions;
 use crate::texts::Table;
 use osm_entity::{Body, Entity, Member, NoMemory, Tag};
 
-/// Puts the texts of an entity into the table, and gives the number of its user, or 0 where metadata
-/// is left out. At `Err` some of the texts may be there.
+/// Puts the texts of an entity into the table, and gives the number of its user, or 0 where
+/// metadata is left out. At `Err` some of the texts may be there.
 pub(crate) fn take_texts(
     texts: &mut Table,
     options: &PbfOptions,
@@ -33,7 +33,8 @@ fn take_user(texts: &mut Table, options: &PbfOptions, entity: &Entity) -> Result
     requires { length texts.old < 2 ^ 31 }
     ensures user { IfOk result (λ user. user ≡ user_number options.now texts.old entity.now.user) }
     ensures small { IfOk result (λ user. user < 2 ^ 31) }
-    ensures ok { OnOk result (texts.new ≡ with_texts texts.old (user_texts options.now entity.now)) }
+    ensures ok { OnOk result (texts.new
+        ≡ with_texts texts.old (user_texts options.now entity.now)) }
     ensures err { OnErr result (texts.new ≡ texts.old) }
 {
     if options.omitmetadata {

@@ -7,7 +7,7 @@ ghost use Rattle.osm_wire.specs.Messages.{IsFieldNumber};
 ghost use Rattle.osm_wire.specs.Written.{shortest_varint, written_message};
 ghost use Rattle.osm_block_write.specs.Columns.{packed_field};
 ghost use Rattle.osm_block_write.specs.Numbered.{numbered_tag};
-ghost use Rattle.osm_block_write.specs.Tables.{number_in};
+ghost use Rattle.osm_block_write.specs.Tables.{text_number};
 
 use crate::packing::put_packed;
 use crate::taken::Row;
@@ -23,7 +23,8 @@ pub(crate) fn put_keys(
     tags: &[Tag],
 ) -> Result<(), NoMemory>
     ensures ok { OnOk result (out.new ≡ out.old
-        ++ written_message (packed_field 2 (map (λ t. t.key) (map (numbered_tag texts.now) tags.now)))) }
+        ++ written_message (packed_field 2
+        (map (λ t. t.key) (map (numbered_tag texts.now) tags.now)))) }
 {
     room.truncate(0);
     for tag in tags {
@@ -40,7 +41,8 @@ pub(crate) fn put_values(
     tags: &[Tag],
 ) -> Result<(), NoMemory>
     ensures ok { OnOk result (out.new ≡ out.old
-        ++ written_message (packed_field 3 (map (λ t. t.value) (map (numbered_tag texts.now) tags.now)))) }
+        ++ written_message (packed_field 3
+        (map (λ t. t.value) (map (numbered_tag texts.now) tags.now)))) }
 {
     room.truncate(0);
     for tag in tags {
@@ -57,7 +59,8 @@ pub(crate) fn put_roles(
     members: &[Member],
 ) -> Result<(), NoMemory>
     ensures ok { OnOk result (out.new ≡ out.old
-        ++ written_message (packed_field 8 (map (number_in texts.now) (map (λ m. m.role) members.now)))) }
+        ++ written_message (packed_field 8
+        (map (text_number texts.now) (map (λ m. m.role) members.now)))) }
 {
     room.truncate(0);
     for member in members {
@@ -66,8 +69,8 @@ pub(crate) fn put_roles(
     put_packed(out, 8, room.as_slice())
 }
 
-/// Appends the field of the kinds of members: 0 for a node, 1 for a way, 2 for a relation. `room` is
-/// emptied first.
+/// Appends the field of the kinds of members: 0 for a node, 1 for a way, 2 for a relation. `room`
+/// is emptied first.
 pub(crate) fn put_kinds(
     out: &mut Bytes,
     room: &mut Bytes,
@@ -98,8 +101,8 @@ pub(crate) fn put_versions(out: &mut Bytes, room: &mut Bytes, rows: &[Row]) -> R
 /// Appends the numbers of the key and the value of each tag. At `Err` some of them may be appended.
 pub(crate) fn append_tags(out: &mut Bytes, texts: &Table, tags: &[Tag]) -> Result<(), NoMemory>
     ensures ok { OnOk result (out.new ≡ out.old
-        ++ flat_map (λ tag. shortest_varint (number_in texts.now tag.key)
-        ++ shortest_varint (number_in texts.now tag.value)) tags.now) }
+        ++ flat_map (λ tag. shortest_varint (text_number texts.now tag.key)
+        ++ shortest_varint (text_number texts.now tag.value)) tags.now) }
     ensures err { OnErr result (IsPrefix out.old out.new) }
 {
     for tag in tags {
@@ -121,7 +124,8 @@ fn kind_number(kind: Kind) -> u64
 
 // Appends the number of a text.
 fn put_text(out: &mut Bytes, texts: &Table, text: &[u8]) -> Result<(), NoMemory>
-    ensures ok { OnOk result (out.new ≡ out.old ++ shortest_varint (number_in texts.now text.now)) }
+    ensures ok { OnOk result (out.new ≡ out.old
+        ++ shortest_varint (text_number texts.now text.now)) }
     ensures err { OnErr result (out.new ≡ out.old) }
 {
     put_varint(out, texts.number_of(text) as u64)

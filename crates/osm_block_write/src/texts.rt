@@ -3,7 +3,7 @@
 //! A text is looked up by the bytes that its entity has, and is copied only where it is new.
 ghost use Rattle.std.specs.Prelude.{◌≡◌, ◌≤◌, ◌++◌, [], ◌∷◌, false, bytes_eq, length, map, take, IfOk, OnOk, OnErr};
 ghost use Rattle.std.specs.List.{list_any};
-ghost use Rattle.osm_block_write.specs.Tables.{number_in, with_text};
+ghost use Rattle.osm_block_write.specs.Tables.{text_number, with_text};
 
 use indexmap::IndexSet;
 use osm_entity::NoMemory;
@@ -54,7 +54,7 @@ impl Table {
 
     /// The number of a text, which is put last where it is new. At `Err` the table is as it was.
     pub(crate) fn number(&mut self, text: &[u8]) -> Result<usize, NoMemory>
-        ensures number { IfOk result (λ n. n ≡ number_in self.old text.now) }
+        ensures number { IfOk result (λ n. n ≡ text_number self.old text.now) }
         ensures within { IfOk result (λ n. n ≤ length self.old) }
         ensures ok { OnOk result (self.new ≡ with_text self.old text.now) }
         ensures err { OnErr result (self.new ≡ self.old) }
@@ -86,7 +86,7 @@ impl Table {
 
     /// The number of a text; how many texts there are where it isn't among them.
     pub(crate) fn number_of(&self, text: &[u8]) -> usize
-        ensures { result ≡ number_in self.now text.now }
+        ensures { result ≡ text_number self.now text.now }
     {
         match self.texts.get_index_of(text) {
             Some(number) => number,

@@ -9,4 +9,5 @@ pub returns : goal.returns
 returns c =
     c.in_ok-put_dense.ensures.ok
     ∙ ap (λ o. o ++ written_message (dense_feature c.args.options.now))
-    (c.in_ok-put_bytes.ensures.ok ∙ ap (λ o. o ++ written_field (bytes_field 4 (codes "OsmSchema-V0.6"))) c.new-block.ensures)
+    (c.in_ok-put_bytes.ensures.ok
+    ∙ ap (λ o. o ++ written_field (bytes_field 4 (codes "OsmSchema-V0.6"))) c.new-block.ensures)

@@ -6,5 +6,6 @@ use Rattle.osm_block_write.proofs.numbering.take_tags.Given as goal
 
 abbrev pub invariant-loop-tag : goal.invariant-loop-tag
 invariant-loop-tag l =
-    (with_texts l.texts (flat_map tag_texts (drop l.tag-index l.tags)) ≡ with_texts l.fn.texts (flat_map tag_texts l.tags))
+    (with_texts l.texts (flat_map tag_texts (drop l.tag-index l.tags))
+    ≡ with_texts l.fn.texts (flat_map tag_texts l.tags))
     × IsPrefix l.fn.texts l.texts
