@@ -1,11 +1,11 @@
 -- What holds of every string table: each text is there once, at its number.
 use Rattle.std.proofs.Common.{◌≡◌, ℕ, List, [], ◌∷◌, true, false, refl, sym, ap, ◌∙◌, subst, Some, inl, inr}
-use Rattle.std.specs.Prelude.{Bool, IsTrue, not, bytes_eq, find, slice_get}
+use Rattle.std.specs.Prelude.{IsTrue, not, bytes_eq, find, slice_get}
 use Rattle.std.specs.Cmp.Lexicographic.{bytes_decides}
-use Rattle.std.specs.List.{AllByRecursion, IsDistinct, filter, list_any}
+use Rattle.std.specs.List.{AllByRecursion, IsDistinct, list_any}
 use Rattle.std.proofs.lemmas.Bool.{cond_both, false≢true, not-true, or_cases}
 use Rattle.std.proofs.lemmas.List.Folds.{find_at}
-use Rattle.osm_block_write.specs.Tables.{first_uses, string_table, text_number, with_texts, without}
+use Rattle.osm_block_write.specs.Tables.{first_uses, string_table, text_number, without}
 use Rattle.osm_block_write.proofs.TablesLemmas.{AreIn, AreIn-with_texts, is_in, string_table-append}
 
 -- a text that is among some texts is in a table that has them
