@@ -1,0 +1,11 @@
+pub mod BlockLemmas
+pub mod ColumnsLemmas
+pub mod ListLemmas
+pub mod MakersLemmas
+pub mod PackingLemmas
+pub mod ResultLemmas
+pub mod RunsLemmas
+pub mod TableLawLemmas
+pub mod TablesLemmas
+pub mod TakingLemmas
+pub mod TextsLemmas

@@ -1,0 +1,9 @@
+pub mod Block
+pub mod Columns
+pub mod Making
+pub mod Messages
+pub mod Numbered
+pub mod Runs
+pub mod Seen
+pub mod Tables
+pub mod Taking
