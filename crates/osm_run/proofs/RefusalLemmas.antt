@@ -24,7 +24,7 @@ use Rattle.osm_run.specs.declared.status.Status.{Status}
 use Rattle.osm_run.proofs.StayLemmas.{not_refused}
 
 -- whether a fault is a refusal of words, of a task, or of pipes and files
-is_refusal : Fault → Bool
+abbrev is_refusal : Fault → Bool
 is_refusal (Words error) = true
 is_refusal (Task error) = true
 is_refusal (Graph error) = true
@@ -47,8 +47,8 @@ list_refusal (Err error) fault is = let same : Words error ≡ fault = cc in ap 
 list_refusal (Ok list) fault is = tasks_refusal (resolved list) fault is
 
 not_first : (words : List (List ℕ)) (fault : Fault) → graph_asked words ≡ Err fault → is_refusal fault ≡ false → ⊥
-not_first words fault is no =
-    let both : true ≡ false = sym (list_refusal (split_words words) fault is) ∙ no in cc
+not_first words fault is other =
+    let both : true ≡ false = sym (list_refusal (split_words words) fault is) ∙ other in cc
 
 -- with status 2 or 3 words were refused
 refused_by_code : (refused : Fault → Type 0) (asked : Option Command) (before after : Moment) (status : Status) →
@@ -93,7 +93,7 @@ module _ (words : List (List ℕ)) (before after : Moment) (status : Status)
     | WasRefused first ↦ absurd (let no : Err status.fault ≡ Ok graph = sym first ∙ is in cc)
     | HasCircle one circle joined bare fault ↦
         (circle, subst (λ (g : GraphValue). IsBareCircle g.pipes circle) (one_graph one graph joined is) bare)
-    | IsUnbuilt one joined no fault ↦ absurd (omega (arith, three, run.code ∙ ap code_of fault))
+    | IsUnbuilt one joined lacks fault ↦ absurd (omega (arith, three, run.code ∙ ap code_of fault))
     | WasOutOfMemory memory ↦ absurd (no_memory other memory)
   ]
 
@@ -102,7 +102,7 @@ module _ (words : List (List ℕ)) (before after : Moment) (status : Status)
   circle_code other graph is none circle = elim (refusal_of none) [
     | WasRefused first ↦ absurd (let no : Err status.fault ≡ Ok graph = sym first ∙ is in cc)
     | HasCircle one found joined bare fault ↦ run.code ∙ ap code_of fault
-    | IsUnbuilt one joined no fault ↦ absurd (no circle.0
+    | IsUnbuilt one joined lacks fault ↦ absurd (lacks circle.0
         (subst (λ (g : GraphValue). IsBareCircle g.pipes circle.0) (one_graph graph one is joined) circle.1))
     | WasOutOfMemory memory ↦ absurd (no_memory other memory)
   ]

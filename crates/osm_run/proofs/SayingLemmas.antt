@@ -1,55 +1,18 @@
--- Lemmas on what was said, and on what a run shows where only that changed after it.
-use Rattle.std.proofs.Common.{◌≡◌, ◌+◌, ◌≤◌, ℕ, List, [], refl, sym, ap, subst, arith, ◌∙◌}
-use Rattle.std.specs.Prelude.{◌≢◌, Option, Some, None, Result, Ok, Err, OnOk}
+-- A run is the same where only what was said changed after it.
+use Rattle.std.proofs.Common.{◌≡◌, ◌≤◌, ℕ, List, ◌++◌, sym, ap, subst, ◌∙◌}
+use Rattle.std.specs.Prelude.{Option, Some, None, flat_map}
 use Rattle.std.specs.Io.KnownBytes.{append_known}
-use Rattle.std.proofs.lemmas.List.{append-nil}
-use Rattle.osm_host.specs.Counts.{CountsFailure, Rose}
+use Rattle.osm_host.specs.Counts.{Rose}
 use Rattle.osm_host.specs.Moments.{Moment}
-use Rattle.osm_host.specs.declared.outside.Failed.{Failed as Failure}
 use Rattle.osm_host.specs.declared.outside.Op.{Op}
-use Rattle.osm_report.specs.Lines.{fault_text}
 use Rattle.osm_report.specs.declared.fault.Fault.{Fault}
-use Rattle.osm_report.specs.declared.fault.Fault.TheVariants.{Clean}
 use Rattle.osm_run.specs.Command.{Command}
 use Rattle.osm_run.specs.Course.{Course, any_failed}
 use Rattle.osm_run.specs.HowFar.{AfterMemory, AfterStop, AfterTasks, FilesAfter, FilesMade, HowFar, OthersAtMemory, OutOfMemory, Ran, Stopped, WhereTold}
 use Rattle.osm_run.specs.OnHost.{CountsBy, IsCourse, SameNames}
 use Rattle.osm_run.specs.Outcome.{IsRefusedOrRun, IsRun, IsSaid}
-use Rattle.osm_run.specs.Plan.{Plan}
+use Rattle.osm_run.specs.Plan.{Plan, names_of}
 use Rattle.osm_run.specs.declared.status.Status.{Status}
-
-append_none : (told : Option (List ℕ)) → told ≡ append_known told []
-append_none None = refl
-append_none (Some bytes) = ap Some (sym (append-nil bytes))
-
--- where nothing is to be said, and nothing was said
-pub said_nothing : (before after : Moment) → after.said ≡ before.said → after.mute ≡ before.mute →
-    IsSaid [] before after
-said_nothing before after said mute = record {
-  silent = λ is. (said, mute);
-  later = omega (arith, mute);
-  said = λ calm. said ∙ append_none before.said;
-}
-
--- the line of a fault isn't empty
-line_there : (fault : Fault) → fault ≢ Clean → fault_text fault ≢ []
-line_there Clean not is = absurd (not refl)
-line_there fault not is = cc
-
--- where a line was given to be said
-pub said_line : {T : Type 0} (fault : Fault) (before after : Moment) (answer : Result T Failure) → fault ≢ Clean →
-    OnOk answer (after.said ≡ append_known before.said (fault_text fault)) →
-    CountsFailure answer before.mute after.mute → IsSaid (fault_text fault) before after
-said_line fault before after (Ok x) not said mute = record {
-  silent = λ is. absurd (line_there fault not is);
-  later = omega (arith, mute);
-  said = λ calm. said;
-}
-said_line fault before after (Err e) not said mute = record {
-  silent = λ is. absurd (line_there fault not is);
-  later = mute.later;
-  said = λ calm. absurd (calm mute.rose);
-}
 
 -- what is said after a run in which nothing was said
 pub said_later : (text : List ℕ) (before between after : Moment) → between.said ≡ before.said →
@@ -70,7 +33,7 @@ module _ (before between after : Moment) (files : after.files ≡ between.files)
     gives = is.gives;
     counts = λ op n. subst (CountsBy (any_failed c op n) (before.count op n)) (sym (counts op n)) (is.counts op n);
     gave = λ n. gave n ∙ is.gave n;
-    known = subst (λ names. SameNames names _) (sym known) is.known;
+    known = subst (λ names. SameNames names (before.known ++ flat_map names_of c.opened)) (sym known) is.known;
   }
 
   stop_later : (k : Command) (c : Course) (status : Status) → AfterStop k c before between status →
