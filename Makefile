@@ -1,8 +1,8 @@
-# make: builds the program; make install PREFIX=..: puts it at PREFIX/bin/osm-tasks, and its documents; make test: the
-# tests; make dist: packs what make install would put, for any x86-64 Linux with its C library.
+# make: builds the program; make install PREFIX=..: puts it at PREFIX/bin/osm-tasks, with its manual page and documents;
+# make test: the tests; make dist: packs what make install would put, for any x86-64 Linux with its C library.
 PREFIX ?= /usr/local
 DESTDIR ?=
-DOCUMENTS = README.md LICENSE docs/COMMANDS.md docs/FORMATS.md docs/PROMISES.md
+DOCUMENTS = README.md LICENSE docs/COMMANDS.md docs/FROM-OSMOSIS.md docs/FORMATS.md docs/PROMISES.md
 ARCHIVE = osm-tasks-x86_64-linux
 
 .PHONY: all install dist test
@@ -11,8 +11,9 @@ all:
 	tools/build
 
 install: all
-	install -d "$(DESTDIR)$(PREFIX)/bin" "$(DESTDIR)$(PREFIX)/share/doc/osm-tasks"
+	install -d "$(DESTDIR)$(PREFIX)/bin" "$(DESTDIR)$(PREFIX)/share/doc/osm-tasks" "$(DESTDIR)$(PREFIX)/share/man/man1"
 	install -m 755 crates/osm_cli/out/osm_cli "$(DESTDIR)$(PREFIX)/bin/osm-tasks"
+	install -m 644 docs/osm-tasks.1 "$(DESTDIR)$(PREFIX)/share/man/man1"
 	install -m 644 $(DOCUMENTS) "$(DESTDIR)$(PREFIX)/share/doc/osm-tasks"
 
 dist:
