@@ -11,8 +11,6 @@ mod pipe;
 mod rule;
 mod spools;
 mod store;
-#[cfg(test)]
-mod tests;
 mod way;
 
 pub use pipe::{Giver, Sent, Taken, Taker, bounded, meet, spool};

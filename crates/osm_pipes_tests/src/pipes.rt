@@ -1,13 +1,13 @@
-//! What no clause says: that the calls come back, with memory where it is there.
+//! Pipes between two threads: that the calls come back, with memory where it is there.
 ghost use Rattle.std.specs.Prelude.{◌≡◌, false};
 ghost use Rattle.osm_entity.specs.Ports.{has_end};
 
-use crate::{Giver, Sent, Taken, Taker, bounded, meet, spool};
-use osm_entity::{Act, Body, End, Entity, Item, Message, NoMemory, Refs, Tags, Text};
+use osm_entity::{Act, Body, End, Entity, Item, Message, Refs, Tags, Text};
+use osm_pipe::{Giver, Sent, Taken, Taker, bounded, meet, spool};
 use std::alloc::Global;
+use std::process::Abort;
 use std::snapshot::Snapshot;
 use std::sync::Wait;
-use std::test::Fail;
 use std::thread;
 use std::thread::{Promise, Threads};
 
@@ -21,42 +21,6 @@ impl Promise<Sent> for OfOnePipe {
     ghost use Rattle.std.specs.Prelude.{◌≡◌};
 
     ghost kept_by = { λ p sent. sent.pipe ≡ p.0.value.pipe };
-}
-
-#[test]
-fn what_one_thread_gives_another_takes(rt: HostRuntime) -> Result<(), Fail> {
-    let pipes = [
-        (Some(1), End::Done),
-        (Some(1), End::Broken),
-        (Some(65_536), End::Done),
-        (Some(65_536), End::Broken),
-        (None, End::Done),
-        (None, End::Broken),
-    ];
-    for (capacity, end) in pipes {
-        assert!(rt; passes(rt, rt.alloc(), capacity, end)?);
-    }
-    Ok(())
-}
-
-/// Whether all items and then the end came, in order.
-fn passes<R>(rt: R, alloc: Global, capacity: Option<u32>, end: End) -> Result<bool, NoMemory>
-where
-    R: Threads + Wait + Copy + Send + 'static,
-{
-    let (giver, taker) = match capacity {
-        Some(most) if most > 0 => bounded(&rt, alloc, most)?,
-        _ => spool(&rt, alloc)?,
-    };
-    let promise = OfOnePipe(Snapshot::of(&giver));
-    let work = move || give_all(&rt, alloc, giver, end);
-    let Ok(worker) = thread::spawn_with(&rt, promise, work) else {
-        return Ok(false);
-    };
-    let (right, taken) = take_all(&rt, taker, end);
-    let sent = worker.join(&rt);
-    meet(&rt, sent, taken);
-    Ok(right)
 }
 
 fn way(alloc: Global, id: i64) -> Item {
@@ -75,6 +39,7 @@ fn way(alloc: Global, id: i64) -> Item {
     }
 }
 
+/// Gives all items and then the end.
 fn give_all<R: Wait>(rt: &R, alloc: Global, mut giver: Giver, end: End) -> Sent
     ensures { result.pipe ≡ giver.pipe }
 {
@@ -86,7 +51,8 @@ fn give_all<R: Wait>(rt: &R, alloc: Global, mut giver: Giver, end: End) -> Sent
     giver.end(rt, end)
 }
 
-#[tactic(auto, using(crate::proofs::PipeLemmas::has_end_item))]
+/// Takes all items and then the end: whether they came in order.
+#[tactic(auto, using(osm_pipe::proofs::PipeLemmas::has_end_item))]
 fn take_all<R: Wait>(rt: &R, mut taker: Taker, end: End) -> (bool, Taken)
     requires { has_end taker.list ≡ false }
     ensures { result.1.pipe ≡ taker.pipe }
@@ -103,4 +69,31 @@ fn take_all<R: Wait>(rt: &R, mut taker: Taker, end: End) -> (bool, Taken)
         Message::Item(_) => false,
     };
     (right, taker.finish())
+}
+
+/// Runs a giver on a thread of its own and a taker on this one, through a new pipe: a spool where there is no capacity.
+fn check<R>(rt: R, capacity: Option<u32>, end: End)
+where
+    R: Abort + AllocGlobal + Threads + Wait + Copy + Send + 'static,
+{
+    let alloc = rt.alloc();
+    let (giver, taker) = match capacity {
+        Some(most) => bounded(&rt, alloc, most.max(1)).expect(&rt, "a pipe"),
+        None => spool(&rt, alloc).expect(&rt, "a spool"),
+    };
+    let promise = OfOnePipe(Snapshot::of(&giver));
+    let work = move || give_all(&rt, alloc, giver, end);
+    let worker = thread::spawn_with(&rt, promise, work).expect(&rt, "a thread");
+    let (right, taken) = take_all(&rt, taker, end);
+    meet(&rt, worker.join(&rt), taken);
+    assert!(rt; right, "{capacity:?}, {end:?}");
+}
+
+#[test]
+fn what_one_thread_gives_another_takes(rt: HostRuntime) {
+    for capacity in [Some(1), Some(65_536), None] {
+        for end in [End::Done, End::Broken] {
+            check(rt, capacity, end);
+        }
+    }
 }
