@@ -1,0 +1,14 @@
+pub mod CheckLemmas
+pub mod ContentLemmas
+pub mod DenseLemmas
+pub mod EntityLemmas
+pub mod FieldLemmas
+pub mod HeaderLemmas
+pub mod ListLemmas
+pub mod OptionLemmas
+pub mod PieceLemmas
+pub mod PlanLemmas
+pub mod RowLemmas
+pub mod SumLemmas
+pub mod TableLemmas
+pub mod TagLemmas

@@ -1,0 +1,29 @@
+//! Blocks of PBF files, read: a block is checked whole into numbers, and its entities are then
+//! handed out one by one, with texts that are parts of its bytes.
+#![tactic(auto)]
+
+mod codes;
+mod content;
+mod dense;
+mod dense_codes;
+mod dense_tags;
+mod entry;
+mod entry_ref;
+mod error;
+mod header;
+mod judging;
+mod lists;
+mod making;
+mod message;
+mod piece;
+mod plain;
+mod plan;
+mod row;
+mod setting;
+mod span;
+mod table;
+
+pub use error::BlockError;
+pub use header::read_header;
+pub use piece::Piece;
+pub use plan::{Plan, check_block};

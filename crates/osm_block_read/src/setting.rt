@@ -1,0 +1,181 @@
+//! What holds for a whole block: its texts, and how its places and times are coded.
+ghost use Rattle.std.specs.Prelude.{◌≡◌, ◌<◌, ◌≤ℤ◌, pos, true, false, length, map, nat_abs, nat_le, IfNone, IfSome, All};
+ghost use Rattle.std.specs.List.{list_all};
+ghost use Rattle.std.specs.Str.{is_utf8};
+ghost use Rattle.osm_entity.specs.Entities.{place_fits};
+ghost use Rattle.osm_block_read.specs.Entries.{degrees_at, seconds_at, text_at};
+ghost use Rattle.osm_block_read.specs.Faults.{is_index_below, last_second};
+ghost use Rattle.osm_block_read.specs.Spans.{IsSpanIn, part_in};
+ghost use Rattle.osm_block_read.specs.Seen.{place_at, setting_of};
+
+use crate::header::is_text;
+use crate::span::{Span, span_at};
+use osm_entity::Place;
+use std::marker::Model;
+
+/// How the places and times of a block are coded.
+#[derive(Clone, Copy, Debug)]
+pub(crate) struct Scale {
+    /// Nanodegrees.
+    pub granularity: i32,
+    /// Milliseconds.
+    pub date_granularity: i32,
+    /// Nanodegrees.
+    pub lat_offset: i64,
+    /// Nanodegrees.
+    pub lon_offset: i64,
+}
+
+/// The bytes of a block, where its texts lie in them, and its scale. Contracts see the texts
+/// themselves.
+#[derive(Debug, Drop)]
+pub(crate) struct Setting<'a> {
+    raw: &'a [u8],
+    spans: &'a [Span],
+    scale: Scale,
+}
+
+impl<'a> Model for Setting<'a> {
+    ghost use Rattle.std.specs.Prelude.{All, length};
+    ghost use Rattle.osm_block_read.specs.Entries.{SettingValue};
+    ghost use Rattle.osm_block_read.specs.Spans.{IsSpanIn};
+    ghost use Rattle.osm_block_read.specs.Seen.{setting_of};
+
+    ghost Value = { SettingValue };
+
+    ghost view = { λ s. setting_of s.raw.now s.spans.now s.scale };
+
+    ghost invariant = { λ s. All (IsSpanIn (length s.raw.now)) s.spans.now };
+}
+
+impl<'a> Setting<'a> {
+    /// The setting of a block's bytes.
+    pub(crate) fn new(raw: &'a [u8], spans: &'a [Span], scale: Scale) -> Setting<'a>
+        requires { All (IsSpanIn (length raw.now)) spans.now }
+        ensures { result ≡ setting_of raw.now spans.now scale }
+    {
+        Setting { raw, spans, scale }
+    }
+
+    /// How many texts it has.
+    pub(crate) fn count(&self) -> usize
+        ensures { result ≡ length self.now.texts }
+    {
+        self.spans.len()
+    }
+
+    /// Whether an index is that of a text.
+    pub(crate) fn has_text(&self, index: i64) -> bool
+        ensures { result ≡ is_index_below (length self.now.texts) index }
+    {
+        is_index_below(self.spans.len(), index)
+    }
+
+    /// The text of an index. It is empty past the last.
+    pub(crate) fn text(&self, index: i64) -> &'a [u8]
+        ensures { result.now ≡ text_at self.now.texts index }
+    {
+        let at = if index < 0 { 0 } else { index as usize };
+        match self.spans.get(at) {
+            Some(span) => &self.raw[span.start..span.end],
+            None => &[],
+        }
+    }
+
+    /// Whether all texts are UTF-8.
+    pub(crate) fn are_texts(&self) -> bool
+        ensures { result ≡ list_all is_utf8 self.now.texts }
+    {
+        are_texts(self.raw, self.spans)
+    }
+
+    /// The place of a coded latitude and longitude. `None` where it is past 180 or 90 degrees.
+    pub(crate) fn place(&self, lat: i64, lon: i64) -> Option<Place>
+        ensures some { IfSome result (λ p. p ≡ place_at self.now lat lon) }
+        ensures fits { IfSome result (λ p. place_fits p ≡ true) }
+        ensures none { IfNone result (place_fits (place_at self.now lat lon) ≡ false) }
+    {
+        let scale = self.scale;
+        let lon = narrow(
+            degrees(scale.lon_offset, scale.granularity, lon),
+            180_000_000_000,
+        )?;
+        let lat = narrow(
+            degrees(scale.lat_offset, scale.granularity, lat),
+            90_000_000_000,
+        )?;
+        Some(Place { lon, lat })
+    }
+
+    /// The seconds of a coded time, and 0 where it is negative. `None` where 32 bits don't hold
+    /// them.
+    pub(crate) fn seconds(&self, timestamp: i64) -> Option<u32>
+        ensures some { IfSome result (λ t. t ≡ seconds_at self.now.date_granularity timestamp) }
+        ensures none { IfNone result
+            (last_second < seconds_at self.now.date_granularity timestamp) }
+    {
+        seconds(timestamp, self.scale.date_granularity)
+    }
+}
+
+/// Whether an index isn't negative and is below a count.
+#[inline(always)]
+pub(crate) fn is_index_below(count: usize, index: i64) -> bool
+    ensures { result ≡ is_index_below count index }
+{
+    index >= 0 && (index as u64) < count as u64
+}
+
+// Whether the parts of bytes are UTF-8.
+fn are_texts(raw: &[u8], spans: &[Span]) -> bool
+    requires { All (IsSpanIn (length raw.now)) spans.now }
+    ensures { result ≡ list_all is_utf8 (map (part_in raw.now) spans.now) }
+{
+    for at in 0..spans.len() {
+        let span = span_at(spans, at);
+        if !is_text(&raw[span.start..span.end]) {
+            return false;
+        }
+    }
+    true
+}
+
+// The same number, where its size is at most this.
+#[inline(always)]
+fn narrow(degrees: i128, most: i64) -> Option<i64>
+    requires { pos 0 ≤ℤ most }
+    ensures some { IfSome result (λ d. d ≡ degrees) }
+    ensures fits { IfSome result (λ d. nat_le (nat_abs d) (nat_abs most) ≡ true) }
+    ensures none { IfNone result (nat_le (nat_abs degrees) (nat_abs most) ≡ false) }
+{
+    let most = most as i128;
+    if -most <= degrees && degrees <= most {
+        Some(degrees as i64)
+    } else {
+        None
+    }
+}
+
+// Nanodegrees, computed exactly.
+#[inline(always)]
+fn degrees(offset: i64, granularity: i32, value: i64) -> i128
+    ensures { result ≡ degrees_at offset granularity value }
+{
+    offset as i128 + granularity as i128 * value as i128
+}
+
+// Seconds of a time in units of so many milliseconds.
+#[inline(always)]
+fn seconds(timestamp: i64, date_granularity: i32) -> Option<u32>
+    ensures some { IfSome result (λ t. t ≡ seconds_at date_granularity timestamp) }
+    ensures none { IfNone result (last_second < seconds_at date_granularity timestamp) }
+{
+    let milliseconds = timestamp as i128 * date_granularity as i128;
+    if milliseconds < 0 {
+        return Some(0);
+    }
+    if milliseconds >= 4_294_967_296_000 {
+        return None;
+    }
+    Some((milliseconds as u64 / 1000) as u32)
+}

@@ -1,0 +1,4 @@
+pub mod BlockSizeLemmas
+pub mod ClosingLemmas
+pub mod SizeLemmas
+pub mod WritingLemmas
