@@ -1,5 +1,5 @@
 //! The plan of a block: its numbers, each of which was checked.
-ghost use Rattle.std.specs.Prelude.{◌≡◌, ℕ, List, [], Ok, OnOk, IfErr, drop, MatchOption, slice_get, Some};
+ghost use Rattle.std.specs.Prelude.{◌≡◌, ℕ, List, [], Ok, OnOk, IfErr, OnErr, drop, MatchOption, slice_get, Some};
 ghost use Rattle.osm_block_read.specs.Block.{block_said};
 ghost use Rattle.osm_block_read.specs.Faults.{entries_fault};
 ghost use Rattle.osm_block_read.specs.Planned.{IsChecked, IsPlanOf, IsRefused, items_planned};
@@ -48,13 +48,16 @@ pub fn check_block(plan: &mut Plan, raw: &[u8]) -> Result<(), BlockError>
     ensures items { OnOk result (block_said raw.now ≡ Ok (items_planned raw.now plan.new)) }
     ensures checked { OnOk result (IsPlanOf raw.now plan.new) }
     ensures bad { IfErr result (IsRefused (block_said raw.now)) }
+    ensures none { OnErr result (plan.new.entries ≡ []) }
 {
     plan.at = 0;
-    let checked = plan.content.check(raw);
-    if checked.is_err() {
-        plan.content.rows.clear();
+    match plan.content.check(raw) {
+        Ok(()) => Ok(()),
+        Err(error) => {
+            plan.content.rows.clear();
+            Err(error)
+        }
     }
-    checked
 }
 
 impl Plan {
