@@ -1,4 +1,10 @@
 pub mod BlockSizeLemmas
 pub mod ClosingLemmas
+pub mod FrameLeftLemmas
+pub mod PassingLemmas
+pub mod PullingLemmas
+pub mod ReadingLemmas
 pub mod SizeLemmas
+pub mod StandingLemmas
+pub mod VerdictLemmas
 pub mod WritingLemmas

@@ -1,3 +1,10 @@
+pub mod FrameLeft
+pub mod Pulled
+pub mod Reader
+pub mod ReaderSeen
+pub mod Reading
+pub mod Standing
+pub mod Steps
 pub mod Writer
 pub mod WriterSeen
 pub mod WrittenFile
