@@ -6,4 +6,5 @@ pub mod OneInputLemmas
 mod PassingMachine
 pub mod PortLemmas
 pub mod PrefixLemmas
+pub mod SortLemmas
 pub mod StreamLemmas

@@ -12,6 +12,7 @@ pub mod Ports
 pub mod Prefixes
 pub mod Readings
 pub mod Seen
+pub mod Sorting
 pub mod Storage
 pub mod Streams
 pub mod Tasks

@@ -1,6 +1,10 @@
-//! Laws of streams and of keys.
+//! Laws of streams, of keys, and of items sorted by key.
 ghost use Rattle.std.specs.Prelude.{◌≡◌, ◌≢◌, ◌⊎◌, true, false, Some};
+ghost use Rattle.std.specs.Prelude.{IsSortedByKey, List};
+ghost use Rattle.std.specs.List.Sorted.{IsStableByKey};
+ghost use Rattle.osm_entity.specs.Items.{ItemValue, key_of};
 ghost use Rattle.osm_entity.specs.Keys.{is_key_before, key_order};
+ghost use Rattle.osm_entity.specs.Sorting.{sorted_by_key};
 ghost use Rattle.osm_entity.specs.Streams.{Stream, IsBefore};
 ghost use Rattle.osm_entity.specs.declared.kind.Key.{Key};
 ghost use Rattle.osm_entity.specs.contracts.kind.KeyOrd.TheImpl as compared;
@@ -26,4 +30,13 @@ pub fn keys_have_one_order()
 
     ensures cmp { (a b : Key) → compared.ghosts.cmp a b ≡ key_order a b }
     ensures partial_cmp { (a b : Key) → partly.ghosts.partial_cmp a b ≡ Some (key_order a b) }
+{}
+
+/// Sorted items rise by key, items of one key stand in their old order, and no other list is so.
+pub fn sorting_is_stable()
+    ensures rising { (items : List ItemValue) → IsSortedByKey key_of key_order (sorted_by_key items) }
+    ensures stable { (items : List ItemValue) →
+        IsStableByKey key_of key_order items (sorted_by_key items) }
+    ensures only { (items sorted : List ItemValue) → IsSortedByKey key_of key_order sorted
+        → IsStableByKey key_of key_order items sorted → sorted ≡ sorted_by_key items }
 {}

@@ -4,6 +4,7 @@
 
 mod duplicating;
 mod entity;
+mod held;
 mod holding;
 mod item;
 mod kind;
@@ -20,9 +21,10 @@ mod verdict;
 mod weighing;
 
 pub use entity::Entity;
+pub use held::Held;
 pub use item::{Act, Item, Items};
 pub use kind::{Flow, Key, Kind};
-pub use laws::{before_is_an_order, keys_have_one_order};
+pub use laws::{before_is_an_order, keys_have_one_order, sorting_is_stable};
 pub use options::{AreaOptions, Resolution, TagTest, TagTests, Texts};
 pub use parts::{Body, Member, Members, Place, Refs, Tag, Tags};
 pub use ports::{growing_rules_are_monotone, messages_are_their_stream, prefix_is_an_order};

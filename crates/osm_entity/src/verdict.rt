@@ -1,4 +1,9 @@
 //! Verdicts of tasks: what went wrong, and where.
+ghost use Rattle.std.specs.Prelude.{◌≡◌};
+ghost use Rattle.osm_entity.specs.Meaning.{finish_after};
+ghost use Rattle.osm_entity.specs.Tasks.{verdict_as};
+
+use crate::stream::End;
 
 /// What is wrong with an input.
 #[derive(Clone, Copy, Debug, PartialEq, Eq)]
@@ -79,4 +84,16 @@ pub enum Verdict {
     Write,
     /// It is out of memory.
     Memory,
+}
+
+impl Verdict {
+    /// How a task ended that did its work, and whose output ended so: its own fault is none.
+    pub fn after(end: End) -> Verdict
+        ensures { result ≡ verdict_as 0 0 (finish_after end) }
+    {
+        match end {
+            End::Done => Verdict::Clean,
+            End::Broken => Verdict::Passed,
+        }
+    }
 }
