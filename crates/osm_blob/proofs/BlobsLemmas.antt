@@ -6,10 +6,10 @@ use Rattle.osm_entity.specs.declared.verdict.Cause.{Cause}
 use Rattle.osm_blob.specs.declared.reading.Frame.{Frame}
 use Rattle.osm_blob.specs.declared.messages.What.{What}
 use Rattle.osm_blob.specs.Blobs.{BlobsValue, GaveAllFrames, GaveFramesToBad, StandsForFrames, blobs_fed, blobs_passed, no_blobs}
-use Rattle.osm_blob.specs.Front.{Short, Whole, Faulty, front_frame}
+use Rattle.osm_blob.specs.Leading.{Short, Whole, Faulty, leading_frame}
 use Rattle.osm_blob.specs.Frames.{Frames, More, Bad, frames_before, next_start, frame_at, frames_from, frames_of, no_frames}
 use Rattle.osm_blob.proofs.FramesLemmas.{frames_before-frames_before, frames_from-bad, frames_from-short, frames_from-whole}
-use Rattle.osm_blob.proofs.FrontLemmas.{front_frame-size, front_frame-stays}
+use Rattle.osm_blob.proofs.LeadingLemmas.{leading_frame-size, leading_frame-stays}
 
 -- a new reader of blobs stands for no bytes and no frames
 pub new_stands : StandsForFrames no_blobs [] []
@@ -27,16 +27,17 @@ fed_stands b bytes all frames s = record {
 
 -- a reader of blobs that passed a frame stands for it too
 pub took_stands : (b : BlobsValue) (what : What) (raw : List ℕ) (size : ℕ) →
-    front_frame b.unread ≡ Whole what raw size → (all : List ℕ) (frames : List Frame) → StandsForFrames b all frames →
+    leading_frame b.unread ≡ Whole what raw size → (all : List ℕ) (frames : List Frame) → StandsForFrames b all frames →
     StandsForFrames (blobs_passed size b) all (frames ++ frame_at b.next what raw ∷ [])
 took_stands b what raw size is all frames s =
-    let fits = front_frame-size b.unread what raw size is in
-    let told : front_frame b.unread ≢ Short = λ short. let same : Whole what raw size ≡ Short = sym is ∙ short in cc in
+    let fits = leading_frame-size b.unread what raw size is in
+    let told : leading_frame b.unread ≢ Short = λ short. let same : Whole what raw size ≡ Short = sym is ∙ short in
+    cc in
     record {
       goes = λ more.
           s.goes more
           ∙ ap (frames_before frames)
-          (frames_from-whole b.next (b.unread ++ more) what raw size (front_frame-stays b.unread more told ∙ is)
+          (frames_from-whole b.next (b.unread ++ more) what raw size (leading_frame-stays b.unread more told ∙ is)
           ∙ ap (λ rest. frames_before (frame_at b.next what raw ∷ []) (frames_from (next_start b.next size) rest))
           (drop-append-le size b.unread more fits.1))
           ∙ frames_before-frames_before frames (frame_at b.next what raw ∷ [])
@@ -64,7 +65,7 @@ frames_before-no_frames frames later none =
     (ap (λ more. frames ++ more) none ∙ append-nil frames)
 
 -- a reader of blobs that needs more bytes gave all frames
-pub gave_all : (b : BlobsValue) → front_frame b.unread ≡ Short → (all : List ℕ) (frames : List Frame) →
+pub gave_all : (b : BlobsValue) → leading_frame b.unread ≡ Short → (all : List ℕ) (frames : List Frame) →
     StandsForFrames b all frames → GaveAllFrames b all frames
 gave_all b is all frames s =
     frames_now b all frames s
@@ -72,7 +73,8 @@ gave_all b is all frames s =
     ∙ frames_before-no_frames frames (no_frames b.next (More b.unread)) refl
 
 -- a reader of blobs that refused a frame gave all before it
-pub gave_to_bad : (b : BlobsValue) (cause : Cause) (blamed : Option What) → front_frame b.unread ≡ Faulty cause blamed →
+pub gave_to_bad : (b : BlobsValue) (cause : Cause) (blamed : Option What) →
+    leading_frame b.unread ≡ Faulty cause blamed →
     (all : List ℕ) (frames : List Frame) → StandsForFrames b all frames →
     GaveFramesToBad (record b { blamed = blamed }) cause all frames
 gave_to_bad b cause blamed is all frames s =
@@ -81,7 +83,7 @@ gave_to_bad b cause blamed is all frames s =
     ∙ frames_before-no_frames frames (no_frames b.next (Bad cause blamed)) refl
 
 -- a reader of blobs that answers that more bytes are needed
-pub none_stands : (old new : BlobsValue) → front_frame old.unread ≡ Short → new ≡ record old { blamed = None } →
+pub none_stands : (old new : BlobsValue) → leading_frame old.unread ≡ Short → new ≡ record old { blamed = None } →
     (all : List ℕ) (frames : List Frame) → StandsForFrames old all frames →
     StandsForFrames new all frames × GaveAllFrames new all frames
 none_stands old new is same all frames s =
@@ -90,7 +92,7 @@ none_stands old new is same all frames s =
 
 -- a reader of blobs that answers that a frame is bad
 pub bad_stands : (old new : BlobsValue) (cause : Cause) (blamed : Option What) →
-    front_frame old.unread ≡ Faulty cause blamed → new ≡ record old { blamed = blamed } →
+    leading_frame old.unread ≡ Faulty cause blamed → new ≡ record old { blamed = blamed } →
     (all : List ℕ) (frames : List Frame) → StandsForFrames old all frames →
     StandsForFrames new all frames × GaveFramesToBad new cause all frames
 bad_stands old new cause blamed is same all frames s =
@@ -99,7 +101,7 @@ bad_stands old new cause blamed is same all frames s =
 
 -- a reader of blobs that answers a frame
 pub some_stands : (old new : BlobsValue) (what : What) (raw : List ℕ) (size : ℕ) (frame : Frame) →
-    front_frame old.unread ≡ Whole what raw size → frame ≡ frame_at old.next what raw → new ≡ blobs_passed size old →
+    leading_frame old.unread ≡ Whole what raw size → frame ≡ frame_at old.next what raw → new ≡ blobs_passed size old →
     (all : List ℕ) (frames : List Frame) → StandsForFrames old all frames →
     StandsForFrames new all (frames ++ frame ∷ [])
 some_stands old new what raw size frame is placed passes all frames s =

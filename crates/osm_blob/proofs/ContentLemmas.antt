@@ -7,13 +7,13 @@ use Rattle.std.proofs.lemmas.Bool.{cases_eq, cond_both}
 use Rattle.osm_entity.specs.declared.verdict.Cause.{Cause}
 use Rattle.osm_entity.specs.declared.verdict.Cause.TheVariants.{BlobTooLong}
 use Rattle.osm_wire.specs.Entries.{◌>>=◌, as_bytes, bytes_given, number_given, unless_refused}
-use Rattle.osm_wire.specs.Fronts.{SpellsAll}
-use Rattle.osm_wire.specs.Messages.{Bytes, FieldValue, Fixed32, Fixed64, Payload, SpellsField, SpellsPayload, Varint, front_field, good_front}
+use Rattle.osm_wire.specs.Pieces.{SpellsAll}
+use Rattle.osm_wire.specs.Messages.{Bytes, FieldValue, Fixed32, Fixed64, Payload, SpellsField, SpellsPayload, Varint, good_front, leading_field}
 use Rattle.osm_wire.specs.Refusals.{RefusesField}
 use Rattle.osm_wire.specs.declared.error.WireError.{WireError}
 use Rattle.osm_wire.proofs.EntryLemmas.{last_entry-here, last_entry-none, last_entry-other}
 use Rattle.osm_wire.proofs.FieldLemmas.{fields_read}
-use Rattle.osm_wire.proofs.FrontLemmas.{front_of-good}
+use Rattle.osm_wire.proofs.PiecesLemmas.{pieces_of-good}
 use Rattle.osm_blob.specs.Messages.{blob_said, compressed_in, content_given, content_in, raw_limit, unless_bad_wire}
 
 -- bytes, if there are any, are no more than a limit
@@ -110,11 +110,11 @@ said-short limit (Some (Some content)) (Some skipped) (Some found) raw short is 
     content_given-short limit (Some content) (nat_lt 0 (length found)) raw (short content refl) is
 
 -- what a blob says, by whether its fields are all of it
-front-short : (limit : ℕ) (fault : Option WireError) (fields : List FieldValue) (raw : List ℕ) →
+pieces-short : (limit : ℕ) (fault : Option WireError) (fields : List FieldValue) (raw : List ℕ) →
     AreShort limit fields → unless_bad_wire (unless_refused fault fields >>= content_in None false) ≡ Ok raw →
     length raw ≤ limit
-front-short limit (Some error) fields raw all is = cc
-front-short limit None fields raw all is =
+pieces-short limit (Some error) fields raw all is = cc
+pieces-short limit None fields raw all is =
     said-short limit (bytes_given None 1 fields) (number_given None 2 fields) (compressed_in fields) raw
     (λ content given. given-short limit None fields content tt all given) is
 
@@ -122,8 +122,8 @@ front-short limit None fields raw all is =
 pub blob_said-short : (blob raw : List ℕ) → blob_said blob ≡ Ok raw → length raw ≤ length blob
 unfolding blob_said
 blob_said-short blob raw is =
-    let good = front_of-good front_field SpellsField RefusesField fields_read blob in
-    let front = good_front blob in
-    front-short (length blob) front.fault front.items raw
-    (fields-short (length blob) good.before front.items
+    let good = pieces_of-good leading_field SpellsField RefusesField fields_read blob in
+    let pieces = good_front blob in
+    pieces-short (length blob) pieces.fault pieces.items raw
+    (fields-short (length blob) good.before pieces.items
     (omega (arith, ap length good.joined, length-append good.before good.rest)) good.spelled) is

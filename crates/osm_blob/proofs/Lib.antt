@@ -1,5 +1,5 @@
 pub mod BlobsLemmas
 pub mod ContentLemmas
 pub mod FramesLemmas
-pub mod FrontLemmas
+pub mod LeadingLemmas
 pub mod WrittenLemmas

@@ -12,13 +12,13 @@ use Rattle.osm_wire.specs.Integers.{int32}
 use Rattle.osm_wire.specs.Messages.{Bytes, FieldValue, Varint}
 use Rattle.osm_wire.specs.Written.{IsField, shortest_varint}
 use Rattle.osm_wire.proofs.WrittenLemmas.{shortest_varint-spells, written_message-fields}
-use Rattle.osm_blob.specs.Front.{FrontFrame, Whole, frame_by_length, frame_by_what, front_frame}
+use Rattle.osm_blob.specs.Leading.{LeadingFrame, Whole, frame_by_length, frame_by_what, leading_frame}
 use Rattle.osm_blob.specs.Messages.{blob_said, content_in, header_in, header_said, largest_blob, raw_limit, unless_bad_wire, what_typed}
 use Rattle.osm_blob.specs.Written.{framed, type_text, written_blob, written_blob_header, written_frame}
 use Rattle.osm_blob.specs.declared.messages.BlobHeader.{BlobHeader}
 use Rattle.osm_blob.specs.declared.messages.What.{What}
 use Rattle.osm_blob.specs.declared.messages.What.TheVariants.{Header, Block, Other}
-use Rattle.osm_blob.proofs.FrontLemmas.{frame_by_length-there, needing-there}
+use Rattle.osm_blob.proofs.LeadingLemmas.{frame_by_length-there, needing-there}
 
 -- the first part of two
 take-first : (count : ℕ) (first second : List ℕ) → count ≡ length first → take count (first ++ second) ≡ first
@@ -127,13 +127,13 @@ written_blob_header-short what size fits =
       length-append first (second ++ []),
     )
 
--- a frame at the front of bytes, by what its parts say
-front_frame-framed : (header blob more : List ℕ) (what : What) (front : FrontFrame) → length header < 65536 →
+-- a frame at the beginning of bytes, by what its parts say
+leading_frame-framed : (header blob more : List ℕ) (what : What) (leading : LeadingFrame) → length header < 65536 →
     length blob ≤ largest_blob → header_said header ≡ Some (record { what = what; size = pos (length blob) }) →
-    frame_by_what what (4 + length header + length blob) blob ≡ front →
-    front_frame (framed header blob ++ more) ≡ front
-unfolding front_frame
-front_frame-framed header blob more what front few large said is =
+    frame_by_what what (4 + length header + length blob) blob ≡ leading →
+    leading_frame (framed header blob ++ more) ≡ leading
+unfolding leading_frame
+leading_frame-framed header blob more what leading few large said is =
     let first = to_be_bytes w32 (length header) in
     let bytes = framed header blob ++ more in
     let start = 4 + length header in
@@ -173,7 +173,7 @@ front_frame-framed header blob more what front few large said is =
 
 -- a written frame is read back
 pub written_frame-reads : (what : What) (raw more : List ℕ) → what ≢ Other → length raw < raw_limit →
-    front_frame (written_frame what raw ++ more) ≡ Whole what raw (length (written_frame what raw))
+    leading_frame (written_frame what raw ++ more) ≡ Whole what raw (length (written_frame what raw))
 unfolding written_frame
 written_frame-reads what raw more written short =
     let blob = written_blob raw in
@@ -184,15 +184,15 @@ written_frame-reads what raw more written short =
     let few = written_blob_header-short what (length blob) (omega (arith, large)) in
     let long : 4 + length header + length blob ≡ length (framed header blob) =
     omega (arith, four, length-append first header, length-append (first ++ header) blob) in
-    front_frame-framed header blob more what (Whole what raw (length (framed header blob)))
+    leading_frame-framed header blob more what (Whole what raw (length (framed header blob)))
     (omega (arith, few)) (omega (arith, large)) (header_said-written what (length blob) written (omega (arith, large)))
     (ap (λ size. frame_by_what what size blob) long
     ∙ frame_by_what-written what (length (framed header blob)) raw written short)
 
 -- what stands in a blob before its raw content is short
-pub blob_front-short : (count : ℕ) → count < 2 ^ 64 →
+pub blob_start-short : (count : ℕ) → count < 2 ^ 64 →
     length (shortest_varint 10 ++ shortest_varint count) ≤ 20
-blob_front-short count fits =
+blob_start-short count fits =
     omega (
       arith,
       shortest_varint-short 10 (omega arith),
@@ -201,17 +201,17 @@ blob_front-short count fits =
     )
 
 -- a frame of its parts
-pub written_frame-parts : (what : What) (raw front header : List ℕ) (size : ℕ) →
-    front ≡ shortest_varint 10 ++ shortest_varint (length raw) → size ≡ length front + length raw →
+pub written_frame-parts : (what : What) (raw start header : List ℕ) (size : ℕ) →
+    start ≡ shortest_varint 10 ++ shortest_varint (length raw) → size ≡ length start + length raw →
     header ≡ written_blob_header what size →
-    to_be_bytes w32 (length header) ++ header ++ front ++ raw ≡ written_frame what raw
+    to_be_bytes w32 (length header) ++ header ++ start ++ raw ≡ written_frame what raw
 unfolding written_frame
-written_frame-parts what raw front header size is_front is_size is_header =
-    let blob : front ++ raw ≡ written_blob raw =
-    ap (λ f. f ++ raw) is_front
+written_frame-parts what raw start header size is_start is_size is_header =
+    let blob : start ++ raw ≡ written_blob raw =
+    ap (λ f. f ++ raw) is_start
     ∙ append_assoc (shortest_varint 10) (shortest_varint (length raw)) raw
     ∙ sym (append-nil (shortest_varint 10 ++ (shortest_varint (length raw) ++ raw))) in
-    let long : size ≡ length (written_blob raw) = is_size ∙ sym (length-append front raw) ∙ ap length blob in
-    append_assoc (to_be_bytes w32 (length header) ++ header) front raw
+    let long : size ≡ length (written_blob raw) = is_size ∙ sym (length-append start raw) ∙ ap length blob in
+    append_assoc (to_be_bytes w32 (length header) ++ header) start raw
     ∙ ap (framed header) blob
     ∙ ap (λ h. framed h (written_blob raw)) (is_header ∙ ap (written_blob_header what) long)

@@ -4,7 +4,7 @@ use Rattle.std.specs.Prelude.{◌≡◌, ℕ, ◌+◌, ◌≤◌, ◌<◌, ◌^�
 use Rattle.std.specs.declared.result.Result.{Result}
 use Rattle.osm_entity.specs.declared.verdict.Cause.{Cause}
 use Rattle.osm_entity.specs.declared.verdict.Cause.TheVariants.{ShortFile}
-use Rattle.osm_blob.specs.Front.{Short, Whole, Faulty, front_frame}
+use Rattle.osm_blob.specs.Leading.{Short, Whole, Faulty, leading_frame}
 use Rattle.osm_blob.specs.Frames.{FrameStart, More, Bad, first_start, frame_at, frames_before, frames_from, frames_of, next_start}
 use Rattle.osm_blob.specs.declared.messages.What.{What}
 use Rattle.osm_blob.specs.declared.reading.BlobError.{BlobError}
@@ -36,21 +36,21 @@ pub record IsBlobs (b : BlobsValue) : Type 0 where
   pub sized : b.next.byte + length b.unread < 2 ^ 64
   pub counted : b.next.number ≤ b.next.byte
 
--- the whole frame at the front of the unread bytes was given and passed
+-- the whole frame at the beginning of the unread bytes was given and passed
 pub record TookFrame (old new : BlobsValue) (frame : Frame) : Type 0 where
   pub size : ℕ
-  pub front : front_frame old.unread ≡ Whole frame.what frame.raw size
+  pub leading : leading_frame old.unread ≡ Whole frame.what frame.raw size
   pub placed : frame ≡ frame_at old.next frame.what frame.raw
   pub passes : new ≡ blobs_passed size old
 
 -- the unread bytes are too few to tell a further frame, and none is refused
 pub record NeedsBytes (old new : BlobsValue) : Type 0 where
-  pub front : front_frame old.unread ≡ Short
+  pub leading : leading_frame old.unread ≡ Short
   pub same : new ≡ record old { blamed = None }
 
--- the frame at the front of the unread bytes is bad, and stays there
+-- the frame at the beginning of the unread bytes is bad, and stays there
 pub record RefusedFrame (old new : BlobsValue) (cause : Cause) : Type 0 where
-  pub front : front_frame old.unread ≡ Faulty cause new.blamed
+  pub leading : leading_frame old.unread ≡ Faulty cause new.blamed
   pub same : new ≡ record old { blamed = new.blamed }
 
 -- the answer of a reader of blobs that was asked for the next frame: the frame, none yet, a bad one, or out of memory

@@ -2,7 +2,7 @@
 -- Here the whole file is cut at once; the code gives one frame after the other.
 use Rattle.std.specs.Prelude.{ℕ, zero, suc, ◌+◌, List, [], ◌∷◌, ◌++◌, length, drop, Option}
 use Rattle.osm_entity.specs.declared.verdict.Cause.{Cause}
-use Rattle.osm_blob.specs.Front.{FrontFrame, Short, Whole, Faulty, front_frame, front_frame_size}
+use Rattle.osm_blob.specs.Leading.{LeadingFrame, Short, Whole, Faulty, leading_frame, leading_frame_size}
 use Rattle.osm_blob.specs.declared.messages.What.{What}
 use Rattle.osm_blob.specs.declared.reading.Frame.{Frame}
 
@@ -45,17 +45,17 @@ abbrev pub frame_at : FrameStart → What → List ℕ → Frame
 frame_at start what raw = record { number = start.number; byte = start.byte; what = what; raw = raw }
 
 -- what bytes begin with, and the frames behind that: a whole frame comes before them, and else there are none
-abbrev pub front_frame_before : FrameStart → List ℕ → FrontFrame → Frames → Frames
-front_frame_before start bytes Short later = no_frames start (More bytes)
-front_frame_before start bytes (Whole what raw size) later = frames_before (frame_at start what raw ∷ []) later
-front_frame_before start bytes (Faulty cause blamed) later = no_frames start (Bad cause blamed)
+abbrev pub leading_frame_before : FrameStart → List ℕ → LeadingFrame → Frames → Frames
+leading_frame_before start bytes Short later = no_frames start (More bytes)
+leading_frame_before start bytes (Whole what raw size) later = frames_before (frame_at start what raw ∷ []) later
+leading_frame_before start bytes (Faulty cause blamed) later = no_frames start (Bad cause blamed)
 
--- the first frames of bytes that begin here, up to so many
+-- the first frames of bytes that begin here, up to the given number
 abbrev pub frames_within : ℕ → FrameStart → List ℕ → Frames
 frames_within zero start bytes = no_frames start (More bytes)
 frames_within (suc count) start bytes =
-    let size = front_frame_size (front_frame bytes) in
-    front_frame_before start bytes (front_frame bytes)
+    let size = leading_frame_size (leading_frame bytes) in
+    leading_frame_before start bytes (leading_frame bytes)
     (frames_within count (next_start start size) (drop size bytes))
 
 -- the frames of bytes that begin here, of which there are no more than bytes

@@ -1,8 +1,8 @@
 pub mod Blobs
 pub mod BlobsSeen
 pub mod Frames
-pub mod Front
-pub mod FrontSeen
+pub mod Leading
+pub mod LeadingSeen
 pub mod Messages
 pub mod MessagesSeen
 pub mod Written

@@ -4,8 +4,8 @@ use Rattle.std.specs.Prelude.{ℕ, List, Option}
 use Rattle.std.specs.Option.{option_map}
 use Rattle.std.specs.declared.result.Result.{Result}
 use Rattle.osm_entity.specs.declared.verdict.Cause.{Cause}
-use Rattle.osm_wire.specs.Entries.{◌>>=◌, whole_front}
-use Rattle.osm_wire.specs.Fronts.{Front}
+use Rattle.osm_wire.specs.Entries.{◌>>=◌, whole_pieces}
+use Rattle.osm_wire.specs.Pieces.{Pieces}
 use Rattle.osm_wire.specs.Messages.{FieldValue}
 use Rattle.osm_blob.specs.Messages.{content_in, header_in, unless_bad_wire}
 use Rattle.osm_blob.specs.declared.messages.BlobEntries.{BlobEntries}
@@ -13,10 +13,10 @@ use Rattle.osm_blob.specs.declared.messages.BlobHeader.{BlobHeader}
 use Rattle.osm_blob.specs.declared.messages.HeaderEntries.{HeaderEntries}
 
 -- what entries of a blob header say together with the fields that follow
-abbrev pub header_with : HeaderEntries → Front FieldValue → Option BlobHeader
-header_with entries front = whole_front front >>= header_in (option_map (λ s. s.now) entries.name) entries.size
+abbrev pub header_with : HeaderEntries → Pieces FieldValue → Option BlobHeader
+header_with entries pieces = whole_pieces pieces >>= header_in (option_map (λ s. s.now) entries.name) entries.size
 
 -- what entries of a blob say together with the fields that follow
-abbrev pub content_with : BlobEntries → Front FieldValue → Result (List ℕ) Cause
-content_with entries front =
-    unless_bad_wire (whole_front front >>= content_in (option_map (λ s. s.now) entries.raw) entries.compressed)
+abbrev pub content_with : BlobEntries → Pieces FieldValue → Result (List ℕ) Cause
+content_with entries pieces =
+    unless_bad_wire (whole_pieces pieces >>= content_in (option_map (λ s. s.now) entries.raw) entries.compressed)

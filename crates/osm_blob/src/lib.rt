@@ -4,13 +4,13 @@
 //! them. The raw content of a blob is handed on; this crate doesn't look into it.
 #![tactic(auto)]
 
-mod front;
+mod framing;
 mod laws;
 mod messages;
 mod reading;
 mod writing;
 
-pub use laws::{frames_go_on, fronts_stay, written_frames_read_back};
+pub use laws::{frames_go_on, leading_frames_stay, written_frames_read_back};
 pub use messages::What;
 pub use reading::{BlobError, BlobReader, Frame};
 pub use writing::frame;

@@ -6,7 +6,7 @@
 //! wire type than its own makes its message bad.
 ghost use Rattle.std.specs.Prelude.{◌≡◌, Err, IfErr, IfOk, None, Ok, OnErr, OnOk};
 ghost use Rattle.osm_entity.specs.declared.verdict.Cause.TheVariants.{BadWire};
-ghost use Rattle.osm_wire.specs.Fronts.{Front, empty_front, in_front};
+ghost use Rattle.osm_wire.specs.Pieces.{Pieces, no_pieces, piece_before};
 ghost use Rattle.osm_wire.specs.Messages.{FieldValue};
 ghost use Rattle.osm_wire.specs.Seen.{field_seen};
 ghost use Rattle.osm_blob.specs.Messages.{blob_said, header_said, what_typed};
@@ -89,7 +89,7 @@ fn what_of(name: &[u8]) -> What
 // The entries of a blob header. At `Err` it isn't well formed.
 #[tactic(auto, unfolding(crate::specs::Messages::header_said))]
 fn header_entries(bytes: &[u8]) -> Result<HeaderEntries<'_>, WireError>
-    ensures ok { IfOk result (λ entries. header_with entries empty_front ≡ header_said bytes.now) }
+    ensures ok { IfOk result (λ entries. header_with entries no_pieces ≡ header_said bytes.now) }
     ensures err { OnErr result (header_said bytes.now ≡ None) }
 {
     let mut entries = HeaderEntries {
@@ -106,7 +106,7 @@ fn header_entries(bytes: &[u8]) -> Result<HeaderEntries<'_>, WireError>
 // The entries of a blob. At `Err` it isn't well formed.
 #[tactic(auto, unfolding(crate::specs::Messages::blob_said))]
 fn blob_entries(bytes: &[u8]) -> Result<BlobEntries<'_>, WireError>
-    ensures ok { IfOk result (λ entries. content_with entries empty_front ≡ blob_said bytes.now) }
+    ensures ok { IfOk result (λ entries. content_with entries no_pieces ≡ blob_said bytes.now) }
     ensures err { OnErr result (blob_said bytes.now ≡ Err BadWire) }
 {
     let mut entries = BlobEntries {
@@ -123,11 +123,11 @@ fn blob_entries(bytes: &[u8]) -> Result<BlobEntries<'_>, WireError>
 impl<'a> HeaderEntries<'a> {
     // Takes the next field. At `Err` the blob header isn't well formed.
     fn take(&mut self, field: Field<'a>) -> Result<(), WireError>
-        ensures ok { OnOk result ((front : Front FieldValue) →
-            header_with self.old (in_front (field_seen field.entry) front)
-            ≡ header_with self.new front) }
-        ensures err { OnErr result ((front : Front FieldValue) →
-            header_with self.old (in_front (field_seen field.entry) front) ≡ None) }
+        ensures ok { OnOk result ((pieces : Pieces FieldValue) →
+            header_with self.old (piece_before (field_seen field.entry) pieces)
+            ≡ header_with self.new pieces) }
+        ensures err { OnErr result ((pieces : Pieces FieldValue) →
+            header_with self.old (piece_before (field_seen field.entry) pieces) ≡ None) }
     {
         match field.number {
             1 => {
@@ -148,7 +148,7 @@ impl<'a> HeaderEntries<'a> {
 
     // What the entries say, where no field follows.
     fn header(&self) -> Option<BlobHeader>
-        ensures { result ≡ header_with self.now empty_front }
+        ensures { result ≡ header_with self.now no_pieces }
     {
         let what = what_of(self.name?);
         let size = int32(self.size?);
@@ -159,11 +159,11 @@ impl<'a> HeaderEntries<'a> {
 impl<'a> BlobEntries<'a> {
     // Takes the next field. At `Err` the blob isn't well formed.
     fn take(&mut self, field: Field<'a>) -> Result<(), WireError>
-        ensures ok { OnOk result ((front : Front FieldValue) →
-            content_with self.old (in_front (field_seen field.entry) front)
-            ≡ content_with self.new front) }
-        ensures err { OnErr result ((front : Front FieldValue) →
-            content_with self.old (in_front (field_seen field.entry) front) ≡ Err BadWire) }
+        ensures ok { OnOk result ((pieces : Pieces FieldValue) →
+            content_with self.old (piece_before (field_seen field.entry) pieces)
+            ≡ content_with self.new pieces) }
+        ensures err { OnErr result ((pieces : Pieces FieldValue) →
+            content_with self.old (piece_before (field_seen field.entry) pieces) ≡ Err BadWire) }
     {
         match field.number {
             1 => {
@@ -185,8 +185,8 @@ impl<'a> BlobEntries<'a> {
 
     // The content that the entries say, where no field follows.
     fn content(self) -> Result<&'a [u8], Cause>
-        ensures ok { IfOk result (λ raw. content_with self.entry empty_front ≡ Ok raw.now) }
-        ensures err { IfErr result (λ cause. content_with self.entry empty_front ≡ Err cause) }
+        ensures ok { IfOk result (λ raw. content_with self.entry no_pieces ≡ Ok raw.now) }
+        ensures err { IfErr result (λ cause. content_with self.entry no_pieces ≡ Err cause) }
     {
         if self.compressed {
             return Err(Cause::Compressed);

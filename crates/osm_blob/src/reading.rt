@@ -1,14 +1,14 @@
 //! Cuts the bytes of a file into frames, however they come.
 //!
-//! The buffer holds what was fed and not given yet. What was given stays at its front until more is
+//! The buffer holds what was fed and not given yet. What was given stays at its beginning until more is
 //! fed; then the rest moves there. No room is made for bytes that didn't come.
 ghost use Rattle.std.specs.Prelude.{◌≡◌, ◌≤◌, ◌<◌, ◌+◌, ◌-◌, ◌^◌, ◌++◌, [], List, ℕ, length, drop, vec_len, IfOk, OnOk, OnErr};
 ghost use Rattle.osm_blob.specs.Blobs.{AnswersNext, IsBlobs, StandsAfterNext, StandsForFrames, blobs_fed, blobs_passed, end_fault, no_blobs};
-ghost use Rattle.osm_blob.specs.Front.{Short, front_frame};
-ghost use Rattle.osm_blob.specs.FrontSeen.{first_frame_seen};
+ghost use Rattle.osm_blob.specs.Leading.{Short, leading_frame};
+ghost use Rattle.osm_blob.specs.LeadingSeen.{first_frame_seen};
 ghost use Rattle.osm_blob.specs.declared.reading.Frame.{Frame};
 
-use crate::front::{FirstFrame, first_frame};
+use crate::framing::{FirstFrame, first_frame};
 use crate::messages::What;
 use osm_entity::{Bytes, Cause, NoMemory};
 use std::alloc::Global;
@@ -76,7 +76,7 @@ impl Model for BlobReader {
 }
 
 // Takes the first `count` bytes out of a buffer.
-fn remove_front(buffer: &mut Vec<u8>, count: usize)
+fn remove_first(buffer: &mut Vec<u8>, count: usize)
     requires { count ≤ vec_len buffer.old }
     ensures items { buffer.new.items ≡ drop count buffer.old.items }
     ensures len { vec_len buffer.new ≡ vec_len buffer.old - count }
@@ -119,17 +119,17 @@ impl BlobReader {
             StandsForFrames self.old all frames →
             StandsForFrames self.new (all ++ bytes.now) frames) }
     {
-        self.move_to_front();
+        self.move_to_start();
         self.append(bytes)
     }
 
-    // Moves what wasn't given to the front of the buffer.
-    fn move_to_front(&mut self)
+    // Moves what wasn't given to the beginning of the buffer.
+    fn move_to_start(&mut self)
         ensures { self.new ≡ self.old }
     {
         if self.start != 0 {
             let start = self.start;
-            remove_front(&mut self.buffer, start);
+            remove_first(&mut self.buffer, start);
             self.start = 0;
         }
     }
@@ -155,7 +155,7 @@ impl BlobReader {
             StandsForFrames self.old bytes frames →
             StandsAfterNext self.new result bytes frames }
     {
-        match self.front() {
+        match self.leading() {
             FirstFrame::Short => {
                 self.blame(None);
                 Ok(None)
@@ -179,8 +179,8 @@ impl BlobReader {
     }
 
     // What the bytes that weren't given begin with.
-    fn front(&self) -> FirstFrame<'_>
-        ensures front { first_frame_seen result ≡ front_frame self.now.unread }
+    fn leading(&self) -> FirstFrame<'_>
+        ensures leading { first_frame_seen result ≡ leading_frame self.now.unread }
         ensures kept { IsBlobs self.now }
     {
         first_frame(&self.buffer[self.start..])
@@ -208,7 +208,7 @@ impl BlobReader {
     /// What is wrong with a file that ends here: ShortFile exactly where bytes of an unfinished
     /// frame are left. It may be asked where `next` answered `None`, and nothing was fed since.
     pub fn finish(&self) -> Option<Cause>
-        requires { front_frame self.now.unread ≡ Short }
+        requires { leading_frame self.now.unread ≡ Short }
         ensures { result ≡ end_fault self.now.unread }
     {
         if self.start == self.buffer.len() {

@@ -22,37 +22,37 @@ pub fn frame(alloc: Global, what: What, raw: &[u8]) -> Result<Bytes, NoMemory>
     requires short { length raw.now < raw_limit }
     ensures { IfOk result (λ frame. frame ≡ written_frame what raw.now) }
 {
-    let front = front_of_blob(alloc, raw.len())?;
-    let header = blob_header(alloc, what, front.len() + raw.len())?;
-    joined(alloc, header.as_slice(), front.as_slice(), raw)
+    let start = start_of_blob(alloc, raw.len())?;
+    let header = blob_header(alloc, what, start.len() + raw.len())?;
+    joined(alloc, header.as_slice(), start.as_slice(), raw)
 }
 
 // The length of a blob header in four bytes, the blob header, and a blob of two parts.
-fn joined(alloc: Global, header: &[u8], front: &[u8], raw: &[u8]) -> Result<Bytes, NoMemory>
+fn joined(alloc: Global, header: &[u8], start: &[u8], raw: &[u8]) -> Result<Bytes, NoMemory>
     requires header { length header.now ≤ 49 }
-    requires front { length front.now ≤ 20 }
+    requires start { length start.now ≤ 20 }
     requires raw { length raw.now < raw_limit }
     ensures { IfOk result (λ frame. frame
-        ≡ to_be_bytes w32 (length header.now) ++ header.now ++ front.now ++ raw.now) }
+        ≡ to_be_bytes w32 (length header.now) ++ header.now ++ start.now ++ raw.now) }
 {
-    let size = 4 + header.len() + front.len() + raw.len();
+    let size = 4 + header.len() + start.len() + raw.len();
     let mut frame = Bytes::with_room(alloc, size)?;
     frame.append(&(header.len() as u32).to_be_bytes())?;
     frame.append(header)?;
-    frame.append(front)?;
+    frame.append(start)?;
     frame.append(raw)?;
     Ok(frame)
 }
 
 // What stands in a blob before its raw content of `count` bytes.
-fn front_of_blob(alloc: Global, count: usize) -> Result<Bytes, NoMemory>
+fn start_of_blob(alloc: Global, count: usize) -> Result<Bytes, NoMemory>
     ensures bytes { IfOk result (λ b. b ≡ shortest_varint 10 ++ shortest_varint count) }
     ensures short { IfOk result (λ b. length b ≤ 20) }
 {
-    let mut front = Bytes::with_room(alloc, 8)?;
-    put_varint(&mut front, RAW_TAG)?;
-    put_varint(&mut front, count as u64)?;
-    Ok(front)
+    let mut start = Bytes::with_room(alloc, 8)?;
+    put_varint(&mut start, RAW_TAG)?;
+    put_varint(&mut start, count as u64)?;
+    Ok(start)
 }
 
 // The blob header of a blob of `size` bytes.

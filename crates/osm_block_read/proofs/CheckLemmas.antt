@@ -38,17 +38,20 @@ unfolding block_said
 said-read raw c read fine = rw (read.said_is, read.setting, fine, sym read.entries) refl
 
 -- a block with dense nodes whose lengths don't fit
-pub said-uneven : (raw : List ℕ) (c : Content) → IsBlockRead raw c → list_all is_utf8 (setting_read raw c).texts ≡ true →
+pub said-uneven : (raw : List ℕ) (c : Content) → IsBlockRead raw c →
+    list_all is_utf8 (setting_read raw c).texts ≡ true →
     c.uneven ≡ true → block_said raw ≡ Err BadLengths
 said-uneven raw c read fine uneven = said-read raw c read fine ∙ rw uneven refl
 
 -- a block with an entity that is wrong
-pub said-fault : (raw : List ℕ) (c : Content) (cause : Cause) → IsBlockRead raw c → list_all is_utf8 (setting_read raw c).texts ≡ true →
+pub said-fault : (raw : List ℕ) (c : Content) (cause : Cause) → IsBlockRead raw c →
+    list_all is_utf8 (setting_read raw c).texts ≡ true →
     c.uneven ≡ false → entries_fault (setting_read raw c) (entries_of c.rows) ≡ Some cause → block_said raw ≡ Err cause
 said-fault raw c cause read fine even found = said-read raw c read fine ∙ rw (even, found) refl
 
 -- a block in which nothing is wrong
-pub said-checked : (raw : List ℕ) (c : Content) → IsBlockRead raw c → list_all is_utf8 (setting_read raw c).texts ≡ true →
+pub said-checked : (raw : List ℕ) (c : Content) → IsBlockRead raw c →
+    list_all is_utf8 (setting_read raw c).texts ≡ true →
     c.uneven ≡ false → entries_fault (setting_read raw c) (entries_of c.rows) ≡ None → IsChecked raw c
 said-checked raw c read fine even none = record {
   rows = read.rows;
@@ -57,6 +60,7 @@ said-checked raw c read fine even none = record {
 }
 
 -- a refusal of a block that isn't well formed
-pub refused-wire : (raw : List ℕ) (refusal : BlockError) → BadWireWhere (block raw ≡ None) refusal → IsRefused (block_said raw) refusal
+pub refused-wire : (raw : List ℕ) (refusal : BlockError) → BadWireWhere (block raw ≡ None) refusal →
+    IsRefused (block_said raw) refusal
 refused-wire raw (Bad cause) where_bad = said-wire raw where_bad.1 ∙ ap Err (sym where_bad.0)
 refused-wire raw Memory where_bad = tt

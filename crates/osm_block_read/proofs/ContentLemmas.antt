@@ -31,16 +31,20 @@ with_groups-more before g (Some groups) = ap Some (sym (joined-joined before (gr
 -- a group more of those that are still to come
 pub groups-more : (before now : Option (List Entry)) (bytes : List ℕ) (g : Group) (coming : Option (List (List ℕ))) →
     group bytes ≡ Some g → now ≡ joined before (group_entries g) →
-    with_groups now (coming >>= all_said group) ≡ with_groups before (option_map (λ more. bytes ∷ more) coming >>= all_said group)
+    with_groups now (coming >>= all_said group) ≡ with_groups before
+    (option_map (λ more. bytes ∷ more) coming >>= all_said group)
 groups-more before now bytes g coming is added =
     ap (λ entries. with_groups entries (coming >>= all_said group)) added
     ∙ sym (with_groups-more before g (coming >>= all_said group))
     ∙ ap (with_groups before) (sym (said-more group bytes g coming is))
 
 -- a group was read, part after part
-pub group-read : (message : List ℕ) (fields : List FieldValue) (o a b d n : Content) → message_fields message ≡ Some fields →
-    IsPartRead o a (messages (entry_said Node) 1 fields) Some → IsPartRead a b (singular None dense_part 2 fields) dense_in →
-    IsPartRead b d (messages (entry_said Way) 3 fields) Some → IsPartRead d n (messages (entry_said Relation) 4 fields) Some →
+pub group-read : (message : List ℕ) (fields : List FieldValue) (o a b d n : Content) →
+    message_fields message ≡ Some fields →
+    IsPartRead o a (messages (entry_said Node) 1 fields) Some →
+    IsPartRead a b (singular None dense_part 2 fields) dense_in →
+    IsPartRead b d (messages (entry_said Way) 3 fields) Some →
+    IsPartRead d n (messages (entry_said Relation) 4 fields) Some →
     IsPartRead o n (group message) group_entries
 group-read message fields o a b d n is nodes dense ways relations = record {
   part = record { nodes = nodes.part; dense = dense.part; ways = ways.part; relations = relations.part };
@@ -103,7 +107,8 @@ block_with texts groups s = record {
 }
 
 -- where the numbers are a scale, they make a block
-block_of-scale : (texts : List (List ℕ)) (groups : List Group) (a b c d : Option ℕ) (s : Scale) → scale_of a b c d ≡ Some s →
+block_of-scale : (texts : List (List ℕ)) (groups : List Group) (a b c d : Option ℕ) (s : Scale) →
+    scale_of a b c d ≡ Some s →
     block_of texts groups a b c d ≡ Some (block_with texts groups s)
 block_of-scale texts groups None b c d s is = absurd (none_some s is)
 block_of-scale texts groups (Some g) None c d s is = absurd (none_some s is)
@@ -113,12 +118,14 @@ block_of-scale texts groups (Some g) (Some t) (Some lat) (Some lon) s is =
     ap (λ scale. Some (block_with texts groups scale)) (some_equal _ s is)
 
 -- a block, part after part
-pub block-said : (raw : List ℕ) (fields : List FieldValue) (table : List ℕ) (texts : List (List ℕ)) (groups : List Group) (s : Scale) →
+pub block-said : (raw : List ℕ) (fields : List FieldValue) (table : List ℕ) (texts : List (List ℕ))
+    (groups : List Group) (s : Scale) →
     message_fields raw ≡ Some fields → single_bytes 1 fields ≡ Some (Some table) → table_texts table ≡ Some texts →
     messages group 2 fields ≡ Some groups → scale_said fields ≡ Some s → block raw ≡ Some (block_with texts groups s)
 block-said raw fields table texts groups s is one read said scale =
     rw (is, one, read, said)
-    (block_of-scale texts groups (scalar 100 17 fields) (scalar 1000 18 fields) (scalar 0 19 fields) (scalar 0 20 fields) s scale)
+    (block_of-scale texts groups (scalar 100 17 fields) (scalar 1000 18 fields) (scalar 0 19 fields)
+    (scalar 0 20 fields) s scale)
 
 -- the entries read so far, where the lengths of all dense nodes fit
 abbrev read_if : Bool → List Entry → Option (List Entry)
@@ -137,7 +144,8 @@ pub read-whole : (raw : List ℕ) (fields : List FieldValue) (table : List ℕ) 
     scale_said fields ≡ Some scale → IsBlockRead raw (record mid { scale = scale })
 read-whole raw fields table old mid scale is one texts within none even groups numbers = record {
   said = block_with (map (part_in raw) old.texts.items) groups.part scale;
-  said_is = block-said raw fields table (map (part_in raw) old.texts.items) groups.part scale is one texts groups.said_is numbers;
+  said_is = block-said raw fields table (map (part_in raw) old.texts.items) groups.part scale is one texts
+      groups.said_is numbers;
   setting = ap (λ v. setting_of raw v.items scale) (sym groups.more.texts);
   entries =
       groups.more.entries

@@ -42,7 +42,8 @@ unfolding int_wrap
 wrapped-none32 = refl
 
 -- a full list is empty or has the length
-pub is_full-cases : {T : Type 0} (count : ℕ) (list : List T) → is_full count list ≡ true → (length list ≡ 0) ⊎ (length list ≡ count)
+pub is_full-cases : {T : Type 0} (count : ℕ) (list : List T) → is_full count list ≡ true →
+    (length list ≡ 0) ⊎ (length list ≡ count)
 is_full-cases count list full = elim (cases_eq (length list) 0) [
   | inl none ↦ inl none
   | inr some ↦ inr (grind (arith, nat_tests, full, some))
@@ -88,7 +89,8 @@ are_lengths_fit-codes c =
       length-summed w32 sint32 c.users.items,
       length-map c.visibles.items truth,
     )
-    (grouped (even-places c) (is_full count c.versions.items) (is_full count c.timestamps.items) (is_full count c.changesets.items)
+    (grouped (even-places c) (is_full count c.versions.items) (is_full count c.timestamps.items)
+    (is_full count c.changesets.items)
     (is_full count c.uids.items) (is_full count c.users.items) (is_full count c.visibles.items))
 
 -- each list of codes that are summed has the length of the ids, or may be empty
@@ -106,7 +108,8 @@ even-parts c even =
     let users : even-users c ≡ true = and_left (even-users c) (is_full count c.visibles.items) even in
     let uids : even-uids c ≡ true = and_left (even-uids c) (is_full count c.users.items) users in
     let changesets : even-changesets c ≡ true = and_left (even-changesets c) (is_full count c.uids.items) uids in
-    let timestamps : even-timestamps c ≡ true = and_left (even-timestamps c) (is_full count c.changesets.items) changesets in
+    let timestamps : even-timestamps c ≡ true = and_left (even-timestamps c)
+    (is_full count c.changesets.items) changesets in
     let versions : even-versions c ≡ true = and_left (even-versions c) (is_full count c.timestamps.items) timestamps in
     let places : even-places c ≡ true = and_left (even-places c) (is_full count c.versions.items) versions in
     record {
@@ -114,7 +117,8 @@ even-parts c even =
           (and_left (length c.lats.items == count) (length c.lons.items == count) places);
       lons = eqb-true (length c.lons.items) count
           (and_right (length c.lats.items == count) (length c.lons.items == count) places);
-      timestamps = is_full-cases count c.timestamps.items (and_right (even-versions c) (is_full count c.timestamps.items) timestamps);
+      timestamps = is_full-cases count c.timestamps.items (and_right (even-versions c)
+          (is_full count c.timestamps.items) timestamps);
       changesets = is_full-cases count c.changesets.items
           (and_right (even-timestamps c) (is_full count c.changesets.items) changesets);
       uids = is_full-cases count c.uids.items (and_right (even-changesets c) (is_full count c.uids.items) uids);
@@ -122,7 +126,8 @@ even-parts c even =
     }
 
 -- the metadata of a node by the sums up to it
-pub dense-info : (c : DenseCodes) (at : ℕ) (s : DenseSums) → are_codes_even c ≡ true → at < length c.ids.items → AreSums c (at + 1) s →
+pub dense-info : (c : DenseCodes) (at : ℕ) (s : DenseSums) → are_codes_even c ≡ true → at < length c.ids.items →
+    AreSums c (at + 1) s →
     dense_info_at (dense_info_of c) at ≡ record {
       version = get_or (map int32 c.versions.items) at (negsuc 0);
       timestamp = s.timestamp;
@@ -149,7 +154,8 @@ dense-info c at s even within sums =
     rw (timestamp, changeset, uid, user) refl
 
 -- a node by the sums up to it, its metadata and its tags
-pub dense-entry : (c : DenseCodes) (tags : List EntryTag) (spans : List Span) (span : Span) (at : ℕ) (s : DenseSums) (info : EntryInfo) →
+pub dense-entry : (c : DenseCodes) (tags : List EntryTag) (spans : List Span) (span : Span) (at : ℕ) (s : DenseSums)
+    (info : EntryInfo) →
     are_codes_even c ≡ true → at < length c.ids.items → at < length spans → AreSums c (at + 1) s →
     info ≡ dense_info_at (dense_info_of c) at → span ≡ get_or spans at span →
     record { even = true; id = s.id; info = info; tags = part_in tags span; body = At s.lat s.lon }
@@ -157,7 +163,8 @@ pub dense-entry : (c : DenseCodes) (tags : List EntryTag) (spans : List Span) (s
 dense-entry c tags spans span at s info even within in_spans sums is_info is_span =
     let parts = even-parts c even in
     let id : get_or (summed w64 (map unzigzagged c.ids.items)) at (pos 0) ≡ s.id =
-    summed-at w64 unzigzagged c.ids.items at within ∙ ap (sum_before w64 unzigzagged c.ids.items) (sym (add-one at)) ∙ sym sums.id in
+    summed-at w64 unzigzagged c.ids.items at within ∙ ap (sum_before w64 unzigzagged c.ids.items) (sym (add-one at))
+    ∙ sym sums.id in
     let lat : get_or (summed w64 (map unzigzagged c.lats.items)) at (pos 0) ≡ s.lat =
     summed-at w64 unzigzagged c.lats.items at (omega (arith, within, parts.lats))
     ∙ ap (sum_before w64 unzigzagged c.lats.items) (sym (add-one at)) ∙ sym sums.lat in
@@ -177,16 +184,19 @@ same-grown a b same = record {
 }
 
 -- a dense node more behind those that were added
-pub node-added : (old now new : Rows) (c : DenseCodes) (spans : List Span) (at : ℕ) (s : DenseSums) (info : EntryInfo) (span : Span)
+pub node-added : (old now new : Rows) (c : DenseCodes) (spans : List Span) (at : ℕ) (s : DenseSums) (info : EntryInfo)
+    (span : Span)
     (row : Row) → are_codes_even c ≡ true → length spans ≡ length c.ids.items →
     All (IsSpanIn (length old.lists.tags.items)) spans → at < length spans → AreRowsIn now →
     entries_of now ≡ entries_of old
     ++ map (dense_entry_at (dense_of c) (map (part_in old.lists.tags.items) spans)) (range_with_len 0 at) →
-    now.lists ≡ old.lists → AreSums c (at + 1) s → info ≡ dense_info_at (dense_info_of c) at → slice_get spans at ≡ Some span →
+    now.lists ≡ old.lists → AreSums c (at + 1) s → info ≡ dense_info_at (dense_info_of c) at →
+    slice_get spans at ≡ Some span →
     row ≡ dense_row s info span → new.rows.items ≡ now.rows.items ++ row ∷ [] → new.lists ≡ now.lists →
     AreRowsIn new × (entries_of new ≡ entries_of old
     ++ map (dense_entry_at (dense_of c) (map (part_in old.lists.tags.items) spans)) (range_with_len 0 (at + 1)))
-node-added old now new c spans at s info span row even count in_list within rows entries lists sums is_info found is_row pushed same =
+node-added old now new c spans at s info span row even count in_list within rows entries lists sums is_info found is_row
+    pushed same =
     let tags : List EntryTag = old.lists.tags.items in
     let node : ℕ → Entry = dense_entry_at (dense_of c) (map (part_in tags) spans) in
     let is_span : span ≡ get_or spans at span = sym (get_or_from_slice_get spans at span span found) in
@@ -201,7 +211,7 @@ node-added old now new c spans at s info span row even count in_list within rows
     ap (λ l. entry_in l row) all ∙ ap (entry_in old.lists) is_row
     ∙ dense-entry c tags spans span at s info even (omega (arith, within, count)) within sums is_info is_span in (
       added.within,
-      added.joined ∙ ap (λ more. entries_of now ++ more ∷ []) entry ∙ ap (λ front. front ++ node at ∷ []) entries
+      added.joined ∙ ap (λ more. entries_of now ++ more ∷ []) entry ∙ ap (λ list. list ++ node at ∷ []) entries
           ∙ append_assoc (entries_of old) (map node (range_with_len 0 at)) (node at ∷ [])
           ∙ ap (λ more. entries_of old ++ more) (sym (map-range_with_len_more node 0 at at (omega arith))),
     )
@@ -209,7 +219,8 @@ node-added old now new c spans at s info span row even count in_list within rows
 -- the nodes of lists of codes, where their lengths fit
 abbrev nodes_if : Bool → DenseCodes → Option (List Entry)
 nodes_if fit c = if fit
-    then option_map (λ each. map (dense_entry_at (dense_of c) each) (range_with_len 0 (length (summed w64 (map unzigzagged c.ids.items)))))
+    then option_map (λ each. map (dense_entry_at (dense_of c) each)
+    (range_with_len 0 (length (summed w64 (map unzigzagged c.ids.items)))))
     (tags_of_all (length (summed w64 (map unzigzagged c.ids.items))) (map int32 c.keys_vals.items))
     else None
 
@@ -223,11 +234,12 @@ dense-uneven_codes c uneven = ap (λ fit. nodes_if fit c) (are_lengths_fit-codes
 
 -- codes whose lengths fit, but perhaps not those of the tags
 dense-even_codes : (c : DenseCodes) (said : Option (List (List EntryTag))) → are_codes_even c ≡ true →
-    tags_of_all (length c.ids.items) (map int32 c.keys_vals.items) ≡ said → dense_entries (dense_of c) ≡ option_map (nodes_with c) said
+    tags_of_all (length c.ids.items) (map int32 c.keys_vals.items) ≡ said →
+    dense_entries (dense_of c) ≡ option_map (nodes_with c) said
 dense-even_codes c said even is =
     ap (λ fit. nodes_if fit c) (are_lengths_fit-codes c ∙ even)
-    ∙ ap
-    (λ n. option_map (λ each. map (dense_entry_at (dense_of c) each) (range_with_len 0 n)) (tags_of_all n (map int32 c.keys_vals.items)))
+    ∙ ap (λ n. option_map (λ each. map (dense_entry_at (dense_of c) each) (range_with_len 0 n))
+    (tags_of_all n (map int32 c.keys_vals.items)))
     (length-summed w64 unzigzagged c.ids.items)
     ∙ ap (option_map (nodes_with c)) is
 
@@ -237,7 +249,8 @@ pub dense-bad_tags : (c : DenseCodes) → are_codes_even c ≡ true →
 dense-bad_tags c even none = dense-even_codes c None even none
 
 -- lists whose tags grew have grown
-pub tags-grown : (a b : Lists) → IsPrefix a.tags.items b.tags.items → b.refs ≡ a.refs → b.members ≡ a.members → AreGrown a b
+pub tags-grown : (a b : Lists) → IsPrefix a.tags.items b.tags.items → b.refs ≡ a.refs → b.members ≡ a.members →
+    AreGrown a b
 tags-grown a b tags refs members = record {
   tags = tags;
   refs = subst (λ v. IsPrefix a.refs.items v.items) (sym refs) (prefix_itself a.refs.items);
@@ -251,15 +264,18 @@ spans-count old new spans count indexes added =
     sym (length-map spans (part_in new)) ∙ ap length added.2.parts ∙ tags_of_all-count count indexes added.0 added.1
 
 -- nodes were added, whose tags were added before them
-pub dense-added : (old mid new : Rows) (c : DenseCodes) (spans : List Span) → AreRowsIn old → are_codes_even c ≡ true → mid.rows ≡ old.rows →
+pub dense-added : (old mid new : Rows) (c : DenseCodes) (spans : List Span) → AreRowsIn old → are_codes_even c ≡ true →
+    mid.rows ≡ old.rows →
     AreGrown old.lists mid.lists →
-    AreTagsAdded old.lists.tags.items mid.lists.tags.items spans (tags_of_all (length c.ids.items) (map int32 c.keys_vals.items)) true →
-    IsAdded mid new (nodes_with c (map (part_in mid.lists.tags.items) spans)) → IsDenseAdded old new (dense_entries (dense_of c)) true
+    AreTagsAdded old.lists.tags.items mid.lists.tags.items spans
+    (tags_of_all (length c.ids.items) (map int32 c.keys_vals.items)) true →
+    IsAdded mid new (nodes_with c (map (part_in mid.lists.tags.items) spans)) →
+    IsDenseAdded old new (dense_entries (dense_of c)) true
 dense-added old mid new c spans rows even same grown tags added =
     let parts : List (List EntryTag) = map (part_in mid.lists.tags.items) spans in
     let entries : entries_of mid ≡ entries_of old =
     ap (λ v. entries_in mid.lists v.items) same ∙ entries-grown old.lists mid.lists old.rows.items grown rows in (
       nodes_with c parts,
       dense-even_codes c (Some tags.0) even tags.1 ∙ ap (λ each. Some (nodes_with c each)) (sym tags.2.parts),
-      record { within = added.within; joined = added.joined ∙ ap (λ front. front ++ nodes_with c parts) entries },
+      record { within = added.within; joined = added.joined ∙ ap (λ list. list ++ nodes_with c parts) entries },
     )

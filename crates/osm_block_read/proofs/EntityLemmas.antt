@@ -29,18 +29,22 @@ added-behind old mid new said other added is same = record {
 }
 
 -- a way, whose refs were added before it
-pub way-added : (old mid new : Rows) (message : List ℕ) (fields : List FieldValue) (id : ℕ) (shown : ℤ) (codes : List ℕ) (span : Span) →
-    AreRowsIn old → message_fields message ≡ Some fields → needed 1 fields ≡ Some id → shown ≡ int64 id → repeated 8 fields ≡ Some codes →
+pub way-added : (old mid new : Rows) (message : List ℕ) (fields : List FieldValue) (id : ℕ) (shown : ℤ) (codes : List ℕ)
+    (span : Span) →
+    AreRowsIn old → message_fields message ≡ Some fields → needed 1 fields ≡ Some id → shown ≡ int64 id →
+    repeated 8 fields ≡ Some codes →
     IsPartAdded old.lists.refs.items mid.lists.refs.items (summed w64 (map unzigzagged codes)) span →
     mid.lists.tags ≡ old.lists.tags → mid.lists.members ≡ old.lists.members → mid.rows ≡ old.rows →
     IsSaidAdded mid new (entry_with shown (body_in mid.lists (AlongRefs span)) true fields) →
     IsSaidAdded old new (way_entry message)
-way-added old mid new message fields id shown codes span within is is_id is_shown is_codes part tags members rows added =
+way-added old mid new message fields id shown codes span within is is_id is_shown is_codes part tags members rows
+    added =
     let refs : List ℤ = summed w64 (map unzigzagged codes) in
     let grown : AreGrown old.lists mid.lists = record {
       tags = subst (λ v. IsPrefix old.lists.tags.items v.items) (sym tags) (prefix_itself old.lists.tags.items);
       refs = prefix-added old.lists.refs.items mid.lists.refs.items refs span part;
-      members = subst (λ v. IsPrefix old.lists.members.items v.items) (sym members) (prefix_itself old.lists.members.items);
+      members = subst (λ v. IsPrefix old.lists.members.items v.items) (sym members)
+          (prefix_itself old.lists.members.items);
     } in
     let said : way_entry message ≡ entry_with (int64 id) (Along refs) true fields = rw (is, is_id, is_codes) refl in
     let other : entry_with shown (body_in mid.lists (AlongRefs span)) true fields ≡ way_entry message =
@@ -52,7 +56,8 @@ way-added old mid new message fields id shown codes span within is is_id is_show
     added-behind old mid new (way_entry message) _ added other same
 
 -- a relation, whose members were added before it
-pub relation-added : (old mid new : Rows) (message : List ℕ) (fields : List FieldValue) (id : ℕ) (shown : ℤ) (even : Bool)
+pub relation-added : (old mid new : Rows) (message : List ℕ) (fields : List FieldValue) (id : ℕ) (shown : ℤ)
+    (even : Bool)
     (roles ids kinds : List ℕ) (span : Span) →
     AreRowsIn old → message_fields message ≡ Some fields → needed 1 fields ≡ Some id → shown ≡ int64 id →
     even ≡ ((length kinds == length ids) && (length roles == length ids)) → repeated 8 fields ≡ Some roles →
@@ -62,7 +67,8 @@ pub relation-added : (old mid new : Rows) (message : List ℕ) (fields : List Fi
     mid.lists.tags ≡ old.lists.tags → mid.lists.refs ≡ old.lists.refs → mid.rows ≡ old.rows →
     IsSaidAdded mid new (entry_with shown (body_in mid.lists (HavingMembers span)) even fields) →
     IsSaidAdded old new (relation_entry message)
-relation-added old mid new message fields id shown even roles ids kinds span within is is_id is_shown is_even is_roles is_ids is_kinds part tags refs rows added =
+relation-added old mid new message fields id shown even roles ids kinds span within is is_id is_shown is_even is_roles
+    is_ids is_kinds part tags refs rows added =
     let members = entry_members (map int32 kinds) (summed w64 (map unzigzagged ids)) (map int32 roles) in
     let grown : AreGrown old.lists mid.lists = record {
       tags = subst (λ v. IsPrefix old.lists.tags.items v.items) (sym tags) (prefix_itself old.lists.tags.items);
@@ -75,7 +81,8 @@ relation-added old mid new message fields id shown even roles ids kinds span wit
     let other : entry_with shown (body_in mid.lists (HavingMembers span)) even fields ≡ relation_entry message =
     ap (λ n. entry_with n (body_in mid.lists (HavingMembers span)) even fields) is_shown
     ∙ ap (λ e. entry_with (int64 id) (body_in mid.lists (HavingMembers span)) e fields) is_even
-    ∙ ap (λ list. entry_with (int64 id) (Having list) ((length kinds == length ids) && (length roles == length ids)) fields)
+    ∙ ap (λ list. entry_with (int64 id) (Having list) ((length kinds == length ids) && (length roles == length ids))
+    fields)
     (part-added old.lists.members.items mid.lists.members.items members span part) ∙ sym said in
     let same : entries_of mid ≡ entries_of old =
     ap (λ v. entries_in mid.lists v.items) rows ∙ entries-grown old.lists mid.lists old.rows.items grown within in

@@ -17,7 +17,8 @@ fault_of_tests (Some tests) =
     else if not tests.1 then Some BadFeature
     else None
 
-features_fault-tests : (features : Option (List (List ℕ))) → features_fault features ≡ fault_of_tests (option_map (tests_of true true) features)
+features_fault-tests : (features : Option (List (List ℕ))) →
+    features_fault features ≡ fault_of_tests (option_map (tests_of true true) features)
 features_fault-tests None = refl
 features_fault-tests (Some features) = refl
 
@@ -27,13 +28,16 @@ unfolding header_fault
 header_fault-message raw none = rw none refl
 
 -- a bounding box that isn't one message
-pub header_fault-box : (raw : List ℕ) (fields : List FieldValue) → message_fields raw ≡ Some fields → single_bytes 1 fields ≡ None →
+pub header_fault-box : (raw : List ℕ) (fields : List FieldValue) → message_fields raw ≡ Some fields →
+    single_bytes 1 fields ≡ None →
     header_fault raw ≡ Some BadWire
 unfolding header_fault
 header_fault-box raw fields is none = rw (is, none) refl
 
 -- a header block by the tests of its features
-pub header_fault-tests : (raw : List ℕ) (fields : List FieldValue) (box : Option (List ℕ)) → message_fields raw ≡ Some fields →
-    single_bytes 1 fields ≡ Some box → header_fault raw ≡ fault_of_tests (option_map (tests_of true true) (all_bytes 4 fields))
+pub header_fault-tests : (raw : List ℕ) (fields : List FieldValue) (box : Option (List ℕ)) →
+    message_fields raw ≡ Some fields →
+    single_bytes 1 fields ≡ Some box → header_fault raw ≡ fault_of_tests
+    (option_map (tests_of true true) (all_bytes 4 fields))
 unfolding header_fault
 header_fault-tests raw fields box is one = rw (is, one) (features_fault-tests (all_bytes 4 fields))

@@ -43,16 +43,20 @@ pub ids_from-more : (last next : ℤ) (codes : List ℕ) (at : ℕ) → at < len
     ids_from last (drop at codes) ≡ next ∷ ids_from next (drop (at + 1) codes)
 ids_from-more last next codes at within is =
     ap (ids_from last) (drop_more codes at 0 within)
-    ∙ rw (is, running-wrapped w64 (last +ℤ unzigzagged (get_or codes at 0)) (map unzigzagged (drop (at + 1) codes))) refl
+    ∙ rw (is, running-wrapped w64 (last +ℤ unzigzagged (get_or codes at 0)) (map unzigzagged (drop (at + 1) codes)))
+    refl
 
 -- an id more behind those that were added; the sums may have gone through their bits
-pub ids-more : (now new : List ℤ) (last held next kept : ℤ) (codes : List ℕ) (at : ℕ) (all : List ℤ) → at < length codes →
+pub ids-more : (now new : List ℤ) (last held next kept : ℤ) (codes : List ℕ) (at : ℕ) (all : List ℤ) →
+    at < length codes →
     new ≡ now ++ next ∷ [] → next ≡ int_wrap w64 (held +ℤ unzigzagged (get_or codes at 0)) →
-    now ++ ids_from last (drop at codes) ≡ all → held ≡ last → kept ≡ next → new ++ ids_from kept (drop (at + 1) codes) ≡ all
+    now ++ ids_from last (drop at codes) ≡ all → held ≡ last → kept ≡ next →
+    new ++ ids_from kept (drop (at + 1) codes) ≡ all
 ids-more now new last held next kept codes at all within got is before same stays =
     let sum : next ≡ int_wrap w64 (last +ℤ unzigzagged (get_or codes at 0)) =
     is ∙ ap (λ s. int_wrap w64 (s +ℤ unzigzagged (get_or codes at 0))) same in
-    ap (λ s. new ++ ids_from s (drop (at + 1) codes)) stays ∙ ap (λ list. list ++ ids_from next (drop (at + 1) codes)) got
+    ap (λ s. new ++ ids_from s (drop (at + 1) codes)) stays
+    ∙ ap (λ list. list ++ ids_from next (drop (at + 1) codes)) got
     ∙ append_assoc now (next ∷ []) (ids_from next (drop (at + 1) codes))
     ∙ ap (λ more. now ++ more) (sym (ids_from-more last next codes at within sum)) ∙ before
 
@@ -76,11 +80,13 @@ pub entry_members-more : (members : List EntryMember) (last next : ℤ) (kinds i
     at < length kinds → at < length ids → at < length roles →
     next ≡ int_wrap w64 (last +ℤ unzigzagged (get_or ids at 0)) →
     (members ++ record { kind = int32 (get_or kinds at 0); id = next; role = int32 (get_or roles at 0) } ∷ [])
-    ++ entry_members (map int32 (drop (at + 1) kinds)) (ids_from next (drop (at + 1) ids)) (map int32 (drop (at + 1) roles))
+    ++ entry_members (map int32 (drop (at + 1) kinds)) (ids_from next (drop (at + 1) ids))
+    (map int32 (drop (at + 1) roles))
     ≡ members ++ entry_members (map int32 (drop at kinds)) (ids_from last (drop at ids)) (map int32 (drop at roles))
 entry_members-more members last next kinds ids roles at in_kinds in_ids in_roles is =
     append_assoc members (record { kind = int32 (get_or kinds at 0); id = next; role = int32 (get_or roles at 0) } ∷ [])
-    (entry_members (map int32 (drop (at + 1) kinds)) (ids_from next (drop (at + 1) ids)) (map int32 (drop (at + 1) roles)))
+    (entry_members (map int32 (drop (at + 1) kinds)) (ids_from next (drop (at + 1) ids))
+    (map int32 (drop (at + 1) roles)))
     ∙ ap (λ more. members ++ more)
     (sym
     (rw (drop_more kinds at 0 in_kinds, ids_from-more last next ids at in_ids is, drop_more roles at 0 in_roles) refl))
@@ -99,24 +105,29 @@ entry_members-end last kinds ids roles at past = elim (cases_lt at (length kinds
 ]
 
 -- a member more behind those that were added; the sums may have gone through their bits
-pub members-more : (now new : List EntryMember) (last held next kept : ℤ) (kinds ids roles : List ℕ) (at : ℕ) (all : List EntryMember)
+pub members-more : (now new : List EntryMember) (last held next kept : ℤ) (kinds ids roles : List ℕ) (at : ℕ)
+    (all : List EntryMember)
     (member : EntryMember) → at < length kinds → at < length ids → at < length roles → new ≡ now ++ member ∷ [] →
     member ≡ member_of_codes (get_or kinds at 0) kept (get_or roles at 0) →
     next ≡ int_wrap w64 (held +ℤ unzigzagged (get_or ids at 0)) →
     now ++ entry_members (map int32 (drop at kinds)) (ids_from last (drop at ids)) (map int32 (drop at roles)) ≡ all →
     held ≡ last → kept ≡ next →
-    new ++ entry_members (map int32 (drop (at + 1) kinds)) (ids_from kept (drop (at + 1) ids)) (map int32 (drop (at + 1) roles)) ≡ all
-members-more now new last held next kept kinds ids roles at all member in_kinds in_ids in_roles got made is before same stays =
+    new ++ entry_members (map int32 (drop (at + 1) kinds)) (ids_from kept (drop (at + 1) ids))
+    (map int32 (drop (at + 1) roles)) ≡ all
+members-more now new last held next kept kinds ids roles at all member in_kinds in_ids in_roles got made is before same
+    stays =
     let sum : kept ≡ int_wrap w64 (last +ℤ unzigzagged (get_or ids at 0)) =
     stays ∙ is ∙ ap (λ s. int_wrap w64 (s +ℤ unzigzagged (get_or ids at 0))) same in
     ap
-    (λ list. list ++ entry_members (map int32 (drop (at + 1) kinds)) (ids_from kept (drop (at + 1) ids)) (map int32 (drop (at + 1) roles)))
+    (λ list. list ++ entry_members (map int32 (drop (at + 1) kinds)) (ids_from kept (drop (at + 1) ids))
+    (map int32 (drop (at + 1) roles)))
     (got ∙ ap (λ m. now ++ m ∷ []) made)
     ∙ entry_members-more now last kept kinds ids roles at in_kinds in_ids in_roles sum ∙ before
 
 -- no members are left where one list has ended
 pub members-end : (now : List EntryMember) (last : ℤ) (kinds ids roles : List ℕ) (at : ℕ) (all : List EntryMember) →
     min (min (length kinds) (length ids)) (length roles) ≤ at →
-    now ++ entry_members (map int32 (drop at kinds)) (ids_from last (drop at ids)) (map int32 (drop at roles)) ≡ all → now ≡ all
+    now ++ entry_members (map int32 (drop at kinds)) (ids_from last (drop at ids)) (map int32 (drop at roles)) ≡ all →
+    now ≡ all
 members-end now last kinds ids roles at all past is =
     sym (append-nil now) ∙ ap (λ more. now ++ more) (sym (entry_members-end last kinds ids roles at past)) ∙ is

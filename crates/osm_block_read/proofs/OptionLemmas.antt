@@ -15,7 +15,8 @@ pub none_some : {B : Type 0} (y : B) → ◌≡◌ {A = Option B} None (Some y) 
 none_some y is = cc
 
 -- where a map gives a value, there was one
-pub map-some : {A B : Type 0} (f : A → B) (given : Option A) (y : B) → option_map f given ≡ Some y → (x : A) × (given ≡ Some x) × (f x ≡ y)
+pub map-some : {A B : Type 0} (f : A → B) (given : Option A) (y : B) → option_map f given ≡ Some y →
+    (x : A) × (given ≡ Some x) × (f x ≡ y)
 map-some f None y is = absurd (none_some y is)
 map-some f (Some x) y is = (x, refl, some_equal (f x) y is)
 
@@ -25,14 +26,16 @@ map-none f None is = refl
 map-none f (Some x) is = cc
 
 -- where nothing was found, nothing is said
-pub none-found : {A B : Type 0} (f : A → B) (found : Option A) (said : Option B) (is_none : Bool) → option_map f found ≡ said →
+pub none-found : {A B : Type 0} (f : A → B) (found : Option A) (said : Option B) (is_none : Bool) →
+    option_map f found ≡ said →
     is_some found ≡ not is_none → is_none ≡ true → said ≡ None
 none-found f None said is_none is test none = sym is
 none-found f (Some x) said true is test none = absurd (false≢true (sym test))
 none-found f (Some x) said false is test none = absurd (false≢true none)
 
 -- where something was found, that is said
-pub some-found : {A B : Type 0} (f : A → B) (found : Option A) (said : Option B) (is_none : Bool) → option_map f found ≡ said →
+pub some-found : {A B : Type 0} (f : A → B) (found : Option A) (said : Option B) (is_none : Bool) →
+    option_map f found ≡ said →
     is_some found ≡ not is_none → is_none ≡ false → (y : B) × (said ≡ Some y)
 some-found f (Some x) said is_none is test some = (f x, sym is)
 some-found f None said false is test some = absurd (false≢true test)
@@ -76,7 +79,8 @@ behind-behind first second None = refl
 behind-behind first second (Some more) = ap Some (sym (append_assoc first second more))
 
 -- an element is a list of one
-pub behind-one : {T : Type 0} (x : T) (more : Option (List T)) → option_map (λ rest. x ∷ rest) more ≡ behind (x ∷ []) more
+pub behind-one : {T : Type 0} (x : T) (more : Option (List T)) →
+    option_map (λ rest. x ∷ rest) more ≡ behind (x ∷ []) more
 behind-one x None = refl
 behind-one x (Some more) = refl
 

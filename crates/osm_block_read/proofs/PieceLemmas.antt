@@ -40,7 +40,8 @@ text-utf8 (text ∷ texts) zero all = IsUtf8-from_is_utf8 text (and_left (is_utf
 text-utf8 (text ∷ texts) (suc n) all = text-utf8 texts n (and_right (is_utf8 text) (list_all is_utf8 texts) all)
 
 -- whether the parts from a place on are UTF-8, by the first of them
-pub texts-more : (raw : List ℕ) (spans : List Span) (at : ℕ) (span : Span) → at < length spans → span ≡ get_or spans at span →
+pub texts-more : (raw : List ℕ) (spans : List Span) (at : ℕ) (span : Span) → at < length spans →
+    span ≡ get_or spans at span →
     list_all is_utf8 (map (part_in raw) (drop at spans))
     ≡ is_utf8 (part_in raw span) && list_all is_utf8 (map (part_in raw) (drop (at + 1) spans))
 texts-more raw spans at span within is =
@@ -123,7 +124,8 @@ keys-named texts (tag ∷ tags) none =
     (keys-named texts tags (or_right (has_empty_key texts tag) (list_any (has_empty_key texts) tags) none))
 
 -- the entity of an entry with which nothing is wrong keeps what entities keep
-pub entity-kept : (s : SettingValue) (e : Entry) → IsFine s e → counted e.info.version < 2 ^ 31 → counted e.info.changeset < 2 ^ 63 →
+pub entity-kept : (s : SettingValue) (e : Entry) → IsFine s e → counted e.info.version < 2 ^ 31 →
+    counted e.info.changeset < 2 ^ 63 →
     counted e.info.uid < 2 ^ 31 → IsEntity (entry_entity s e)
 entity-kept s e fine version changeset uid = record {
   version = version;
@@ -135,9 +137,11 @@ entity-kept s e fine version changeset uid = record {
 }
 
 -- an entity that has what an entry has keeps it too
-pub entity-made : (s : SettingValue) (e : Entry) (id : ℤ) (version time changeset uid : ℕ) (user : List ℕ) (tags : List Tag) (body : Body) →
+pub entity-made : (s : SettingValue) (e : Entry) (id : ℤ) (version time changeset uid : ℕ) (user : List ℕ)
+    (tags : List Tag) (body : Body) →
     IsEntity (entry_entity s e) → id ≡ e.id → version ≡ counted e.info.version →
-    time ≡ seconds_at s.date_granularity e.info.timestamp → changeset ≡ counted e.info.changeset → uid ≡ counted e.info.uid →
+    time ≡ seconds_at s.date_granularity e.info.timestamp → changeset ≡ counted e.info.changeset →
+    uid ≡ counted e.info.uid →
     user ≡ text_at s.texts e.info.user → tags ≡ map (entry_tag s) e.tags → body ≡ entry_body s e.body →
     IsEntity (record {
       id = id;
@@ -149,5 +153,6 @@ pub entity-made : (s : SettingValue) (e : Entry) (id : ℤ) (version time change
       tags = tags;
       body = body;
     })
-entity-made s e id version time changeset uid user tags body kept is_id is_version is_time is_changeset is_uid is_user is_tags is_body =
+entity-made s e id version time changeset uid user tags body kept is_id is_version is_time is_changeset is_uid is_user
+    is_tags is_body =
     rw (is_id, is_version, is_time, is_changeset, is_uid, is_user, is_tags, is_body) kept

@@ -13,17 +13,21 @@ use Rattle.osm_block_read.specs.Rows.{entries_of}
 use Rattle.osm_block_read.specs.declared.content.Content.{Content}
 
 -- the element at a place, and those after it
-pub drop-get : {X : Type 0} (xs : List X) (at : ℕ) (x : X) → slice_get xs at ≡ Some x → drop at xs ≡ x ∷ drop (at + 1) xs
+pub drop-get : {X : Type 0} (xs : List X) (at : ℕ) (x : X) → slice_get xs at ≡ Some x →
+    drop at xs ≡ x ∷ drop (at + 1) xs
 drop-get xs at x is =
-    drop_more xs at x (slice_get_within xs at x is) ∙ ap (λ y. y ∷ drop (at + 1) xs) (get_or_from_slice_get xs at x x is)
+    drop_more xs at x (slice_get_within xs at x is) ∙ ap (λ y. y ∷ drop (at + 1) xs)
+    (get_or_from_slice_get xs at x x is)
 
 -- where nothing is wrong with an entry, the fault is that of those after it
-pub entries_fault-more : (s : SettingValue) (entries : List Entry) (at : ℕ) (e : Entry) → slice_get entries at ≡ Some e →
+pub entries_fault-more : (s : SettingValue) (entries : List Entry) (at : ℕ) (e : Entry) →
+    slice_get entries at ≡ Some e →
     entry_fault s e ≡ None → entries_fault s (drop at entries) ≡ entries_fault s (drop (at + 1) entries)
 entries_fault-more s entries at e is fine = rw (drop-get entries at e is, fine) refl
 
 -- what is wrong with an entry is the first fault
-pub entries_fault-found : (s : SettingValue) (entries : List Entry) (at : ℕ) (e : Entry) (cause : Cause) → slice_get entries at ≡ Some e →
+pub entries_fault-found : (s : SettingValue) (entries : List Entry) (at : ℕ) (e : Entry) (cause : Cause) →
+    slice_get entries at ≡ Some e →
     entry_fault s e ≡ Some cause → entries_fault s (drop at entries) ≡ Some cause
 entries_fault-found s entries at e cause is found = rw (drop-get entries at e is, found) refl
 
@@ -36,10 +40,12 @@ fine-first (Some cause) more fine = cc
 pub next-entry : (raw : List ℕ) (c : Content) (at : ℕ) (e : Entry) → IsPlanOf raw (content_plan c at) →
     slice_get (entries_of c.rows) at ≡ Some e →
     (entry_fault (setting_planned raw (content_plan c at)) e ≡ None)
-    × (slice_get (items_planned raw (content_plan c at)) 0 ≡ Some (entry_item (setting_planned raw (content_plan c at)) e))
+    × (slice_get (items_planned raw (content_plan c at)) 0 ≡ Some
+    (entry_item (setting_planned raw (content_plan c at)) e))
 next-entry raw c at e planned is =
     let s : SettingValue = setting_planned raw (content_plan c at) in
-    let here : drop at (entries_of c.rows) ≡ e ∷ drop (at + 1) (entries_of c.rows) = drop-get (entries_of c.rows) at e is in (
+    let here : drop at (entries_of c.rows) ≡ e ∷ drop (at + 1) (entries_of c.rows) =
+    drop-get (entries_of c.rows) at e is in (
       fine-first (entry_fault s e) (entries_fault s (drop (at + 1) (entries_of c.rows)))
           (ap (entries_fault s) (sym here) ∙ planned.fine),
       ap (λ entries. slice_get (map (entry_item s) entries) 0) here,
@@ -50,7 +56,8 @@ rest-fine : (first more : Option Cause) → option_or first more ≡ None → mo
 rest-fine None more none = none
 rest-fine (Some cause) more none = cc
 
-fine-rest : (s : SettingValue) (entries : List Entry) → entries_fault s entries ≡ None → entries_fault s (drop 1 entries) ≡ None
+fine-rest : (s : SettingValue) (entries : List Entry) → entries_fault s entries ≡ None →
+    entries_fault s (drop 1 entries) ≡ None
 fine-rest s [] none = refl
 fine-rest s (e ∷ more) none = rest-fine (entry_fault s e) (entries_fault s more) none
 
@@ -73,7 +80,8 @@ drop-one (x ∷ xs) zero = refl
 drop-one (x ∷ xs) (suc at) = drop-one xs at
 
 -- the plan of a content of which one entry more was passed
-pub plan-passed : (c : Content) (at : ℕ) (plan : PlanValue) → content_plan c at ≡ plan → content_plan c (at + 1) ≡ passed plan
+pub plan-passed : (c : Content) (at : ℕ) (plan : PlanValue) → content_plan c at ≡ plan →
+    content_plan c (at + 1) ≡ passed plan
 plan-passed c at plan is =
     ap (λ entries. record { texts = c.texts.items; scale = c.scale; entries = entries })
     (ap (λ n. drop n (entries_of c.rows)) (add-one at) ∙ drop-one (entries_of c.rows) at)

@@ -21,7 +21,8 @@ use Rattle.osm_block_read.specs.declared.row.RowBody.TheVariants.{At as AtPlace,
 use Rattle.osm_block_read.specs.declared.span.Span.{Span}
 
 -- a span within a list is within what it grew to
-pub span-grown : {T : Type 0} (xs ys : List T) (span : Span) → IsPrefix xs ys → IsSpanIn (length xs) span → IsSpanIn (length ys) span
+pub span-grown : {T : Type 0} (xs ys : List T) (span : Span) → IsPrefix xs ys → IsSpanIn (length xs) span →
+    IsSpanIn (length ys) span
 span-grown xs ys span grown is = record {
   ordered = is.ordered;
   within = omega (arith, is.within, ap length grown.joined, length-append xs grown.rest);
@@ -32,13 +33,15 @@ pub part-grown : {T : Type 0} (xs ys : List T) (span : Span) → IsPrefix xs ys 
     part_in ys span ≡ part_in xs span
 part-grown xs ys span grown is =
     let first : span.start ≤ length xs = omega (arith, is.ordered, is.within) in
-    let last : span.end - span.start ≤ length (drop span.start xs) = omega (arith, is.ordered, is.within, length-drop span.start xs) in
+    let last : span.end - span.start ≤ length (drop span.start xs) =
+    omega (arith, is.ordered, is.within, length-drop span.start xs) in
     ap (λ list. part_in list span) grown.joined
     ∙ ap (take (span.end - span.start)) (drop-append-le span.start xs grown.rest first)
     ∙ take-append-le (span.end - span.start) (drop span.start xs) grown.rest last
 
 -- the part that was added, and its span
-pub part-added : {T : Type 0} (old new part : List T) (span : Span) → IsPartAdded old new part span → part_in new span ≡ part
+pub part-added : {T : Type 0} (old new part : List T) (span : Span) → IsPartAdded old new part span →
+    part_in new span ≡ part
 part-added old new part span is =
     let long : length new ≡ length old + length part = ap length is.joined ∙ length-append old part in
     let size : span.end - span.start ≡ length part = omega (arith, is.start, is.end, long) in
@@ -47,7 +50,8 @@ part-added old new part span is =
     ∙ ap (take (span.end - span.start)) (drop_at old part (length old) refl)
     ∙ take_all (span.end - span.start) part (omega (arith, size))
 
-pub span-added : {T : Type 0} (old new part : List T) (span : Span) → IsPartAdded old new part span → IsSpanIn (length new) span
+pub span-added : {T : Type 0} (old new part : List T) (span : Span) → IsPartAdded old new part span →
+    IsSpanIn (length new) span
 span-added old new part span is = record {
   ordered = omega (arith, is.start, is.end, ap length is.joined, length-append old part);
   within = omega (arith, is.end);
@@ -80,7 +84,8 @@ entry-with row tags body = record { even = row.even; id = row.id; info = row.inf
 
 pub entry-grown : (a b : Lists) (row : Row) → AreGrown a b → IsRowIn a row → entry_in b row ≡ entry_in a row
 entry-grown a b row grown is =
-    ap (λ tags. entry-with row tags (body_in b row.body)) (part-grown a.tags.items b.tags.items row.tags grown.tags is.tags)
+    ap (λ tags. entry-with row tags (body_in b row.body)) (part-grown a.tags.items b.tags.items row.tags grown.tags
+    is.tags)
     ∙ ap (entry-with row (part_in a.tags.items row.tags)) (body-grown a b row.body grown is.body)
 
 -- so do all rows
@@ -90,7 +95,8 @@ rows-grown a b (row ∷ rows) grown is =
     All-cons (IsRowIn b) row rows (row-grown a b row grown (All-head (IsRowIn a) row rows is))
     (rows-grown a b rows grown (All-tail (IsRowIn a) row rows is))
 
-pub entries-grown : (a b : Lists) (rows : List Row) → AreGrown a b → All (IsRowIn a) rows → entries_in b rows ≡ entries_in a rows
+pub entries-grown : (a b : Lists) (rows : List Row) → AreGrown a b → All (IsRowIn a) rows →
+    entries_in b rows ≡ entries_in a rows
 entries-grown a b [] grown is = refl
 entries-grown a b (row ∷ rows) grown is =
     ap (λ e. e ∷ entries_in b rows) (entry-grown a b row grown (All-head (IsRowIn a) row rows is))
@@ -105,11 +111,13 @@ row-added old new row is grown pushed within = record {
       (All-push (IsRowIn new.lists) old.rows.items row (rows-grown old.lists new.lists old.rows.items grown is) within);
   joined =
       ap (entries_in new.lists) pushed ∙ map-append (entry_in new.lists) old.rows.items (row ∷ [])
-      ∙ ap (λ entries. entries ++ entry_in new.lists row ∷ []) (entries-grown old.lists new.lists old.rows.items grown is);
+      ∙ ap (λ entries. entries ++ entry_in new.lists row ∷ [])
+      (entries-grown old.lists new.lists old.rows.items grown is);
 }
 
 -- an entity more, with the tags and the metadata that its fields say
-pub entity-added : (old new : Rows) (id : ℤ) (body : RowBody) (all_even even : Bool) (fields : List FieldValue) (keys values : List ℕ)
+pub entity-added : (old new : Rows) (id : ℤ) (body : RowBody) (all_even even : Bool) (fields : List FieldValue)
+    (keys values : List ℕ)
     (known : EntryInfo) (span : Span) → AreRowsIn old → IsBodyIn old.lists body → repeated 2 fields ≡ Some keys →
     repeated 3 fields ≡ Some values → singular no_info info 4 fields ≡ Some known →
     IsPartAdded old.lists.tags.items new.lists.tags.items (entry_tags keys values) span →
@@ -117,12 +125,14 @@ pub entity-added : (old new : Rows) (id : ℤ) (body : RowBody) (all_even even :
     even ≡ (all_even && (length keys == length values)) →
     new.rows.items ≡ old.rows.items ++ record { even = even; id = id; info = known; tags = span; body = body } ∷ [] →
     IsSaidAdded old new (entry_with id (body_in old.lists body) all_even fields)
-entity-added old new id body all_even even fields keys values known span rows within is_keys is_values is_info added refs members is_even pushed =
+entity-added old new id body all_even even fields keys values known span rows within is_keys is_values is_info added
+    refs members is_even pushed =
     let row : Row = record { even = even; id = id; info = known; tags = span; body = body } in
     let grown : AreGrown old.lists new.lists = record {
       tags = prefix-added old.lists.tags.items new.lists.tags.items (entry_tags keys values) span added;
       refs = subst (λ v. IsPrefix old.lists.refs.items v.items) (sym refs) (prefix_itself old.lists.refs.items);
-      members = subst (λ v. IsPrefix old.lists.members.items v.items) (sym members) (prefix_itself old.lists.members.items);
+      members = subst (λ v. IsPrefix old.lists.members.items v.items) (sym members)
+          (prefix_itself old.lists.members.items);
     } in
     let row_in : IsRowIn new.lists row = record {
       tags = span-added old.lists.tags.items new.lists.tags.items (entry_tags keys values) span added;
@@ -140,7 +150,8 @@ entity-added old new id body all_even even fields keys values known span rows wi
     ap (λ tags. entry-with row tags (body_in new.lists body))
     (part-added old.lists.tags.items new.lists.tags.items (entry_tags keys values) span added)
     ∙ ap (entry-with row (entry_tags keys values)) (body-grown old.lists new.lists body grown within)
-    ∙ ap (λ e. record { even = e; id = id; info = known; tags = entry_tags keys values; body = body_in old.lists body }) is_even in
+    ∙ ap (λ e. record { even = e; id = id; info = known; tags = entry_tags keys values; body = body_in old.lists body })
+    is_even in
     record {
       entry = entry;
       said_is = rw (is_keys, is_values, is_info) refl;

@@ -24,7 +24,8 @@ length-running from (x ∷ xs) = ap suc (length-running (from +ℤ x) xs)
 
 pub length-summed : (w : Width) (value : ℕ → ℤ) (codes : List ℕ) → length (summed w (map value codes)) ≡ length codes
 length-summed w value codes =
-    length-map (running (pos 0) (map value codes)) (int_wrap w) ∙ length-running (pos 0) (map value codes) ∙ length-map codes value
+    length-map (running (pos 0) (map value codes)) (int_wrap w) ∙ length-running (pos 0) (map value codes)
+    ∙ length-map codes value
 
 -- each running sum is the one before and the number at its place
 running-next : (from : ℤ) (xs : List ℤ) (n : ℕ) → suc n < length xs →
@@ -45,14 +46,16 @@ summed-at w value codes (suc n) within =
     let sums : length (running (pos 0) xs) ≡ length codes = length-running (pos 0) xs ∙ long in
     get_or-map (int_wrap w) (running (pos 0) xs) (suc n) (pos 0) (pos 0) (omega (arith, within, sums))
     ∙ ap (int_wrap w) (running-next (pos 0) xs n (omega (arith, within, long)))
-    ∙ ap (λ x. int_wrap w (get_or (running (pos 0) xs) n (pos 0) +ℤ x)) (get_or-map value codes (suc n) 0 (pos 0) within)
+    ∙ ap (λ x. int_wrap w (get_or (running (pos 0) xs) n (pos 0) +ℤ x))
+    (get_or-map value codes (suc n) 0 (pos 0) within)
     ∙ sym (int_wrap-add_left w (get_or (running (pos 0) xs) n (pos 0)) (value (get_or codes (suc n) 0)))
     ∙ ap (λ sum. int_wrap w (sum +ℤ value (get_or codes (suc n) 0)))
     (sym (get_or-map (int_wrap w) (running (pos 0) xs) n (pos 0) (pos 0) (omega (arith, within, sums)))
     ∙ summed-at w value codes n (omega (arith, within)))
 
 -- no codes sum up to 0
-sum_before-none : (w : Width) (value : ℕ → ℤ) (n : ℕ) → value 0 ≡ pos 0 → int_wrap w (pos 0) ≡ pos 0 → sum_before w value [] n ≡ pos 0
+sum_before-none : (w : Width) (value : ℕ → ℤ) (n : ℕ) → value 0 ≡ pos 0 → int_wrap w (pos 0) ≡ pos 0 →
+    sum_before w value [] n ≡ pos 0
 sum_before-none w value zero none wrapped = refl
 sum_before-none w value (suc n) none wrapped =
     ap (λ sum. int_wrap w (sum +ℤ value 0)) (sum_before-none w value n none wrapped)
@@ -64,18 +67,21 @@ pub sum-at : (w : Width) (value : ℕ → ℤ) (codes : List ℕ) (count n : ℕ
     get_or (summed w (map value codes)) n (pos 0) ≡ sum_before w value codes (suc n)
 sum-at w value codes count n none wrapped (inl empty) within =
     let none_left : codes ≡ [] = nil_from_length codes empty in
-    ap (λ list. get_or (summed w (map value list)) n (pos 0)) none_left ∙ sym (sum_before-none w value (suc n) none wrapped)
+    ap (λ list. get_or (summed w (map value list)) n (pos 0)) none_left
+    ∙ sym (sum_before-none w value (suc n) none wrapped)
     ∙ ap (λ list. sum_before w value list (suc n)) (sym none_left)
 sum-at w value codes count n none wrapped (inr full) within = summed-at w value codes n (omega (arith, full, within))
 
 -- the sum of one code more
-pub sum_before-more : (w : Width) (value : ℕ → ℤ) (codes : List ℕ) (n : ℕ) (sum next : ℤ) → sum ≡ sum_before w value codes n →
+pub sum_before-more : (w : Width) (value : ℕ → ℤ) (codes : List ℕ) (n : ℕ) (sum next : ℤ) →
+    sum ≡ sum_before w value codes n →
     next ≡ int_wrap w (sum +ℤ value (get_or codes n 0)) → next ≡ sum_before w value codes (n + 1)
 sum_before-more w value codes n sum next before is =
     is ∙ ap (λ s. int_wrap w (s +ℤ value (get_or codes n 0))) before ∙ ap (sum_before w value codes) (sym (add-one n))
 
 -- the same of sums that have gone through their bits, and of a slice of the codes
-pub sum-added : (w : Width) (value : ℕ → ℤ) (codes slice : List ℕ) (n : ℕ) (sum held next shown : ℤ) → sum ≡ sum_before w value codes n →
+pub sum-added : (w : Width) (value : ℕ → ℤ) (codes slice : List ℕ) (n : ℕ) (sum held next shown : ℤ) →
+    sum ≡ sum_before w value codes n →
     next ≡ int_wrap w (held +ℤ value (get_or slice n 0)) → slice ≡ codes → held ≡ sum → shown ≡ next →
     shown ≡ sum_before w value codes (n + 1)
 sum-added w value codes slice n sum held next shown before is same kept stays =

@@ -72,8 +72,10 @@ pub record IsNodeOpen (old new : List EntryTag) (indexes : List ℤ) (from at : 
   pub within : at ≤ length indexes
 
 -- a tag more
-pub open-more : (old new : List EntryTag) (indexes : List ℤ) (from at : ℕ) (key value : ℤ) → IsNodeOpen old new indexes from at →
-    at + 1 < length indexes → key ≡ get_or indexes at (pos 0) → value ≡ get_or indexes (at + 1) (pos 0) → is_node_end key ≡ false →
+pub open-more : (old new : List EntryTag) (indexes : List ℤ) (from at : ℕ) (key value : ℤ) →
+    IsNodeOpen old new indexes from at →
+    at + 1 < length indexes → key ≡ get_or indexes at (pos 0) → value ≡ get_or indexes (at + 1) (pos 0) →
+    is_node_end key ≡ false →
     IsNodeOpen old (new ++ record { key = key; value = value } ∷ []) indexes from (at + 2)
 open-more old new indexes from at key value opened within is_key is_value goes_on =
     let tag : EntryTag = record { key = key; value = value } in
@@ -96,8 +98,10 @@ open-more old new indexes from at key value opened within is_key is_value goes_o
     }
 
 -- the node ends
-pub open-end : (old new : List EntryTag) (indexes : List ℤ) (from at : ℕ) (key : ℤ) → IsNodeOpen old new indexes from at →
-    at < length indexes → key ≡ get_or indexes at (pos 0) → is_node_end key ≡ true → IsNodeAdded old new indexes from (at + 1)
+pub open-end : (old new : List EntryTag) (indexes : List ℤ) (from at : ℕ) (key : ℤ) →
+    IsNodeOpen old new indexes from at →
+    at < length indexes → key ≡ get_or indexes at (pos 0) → is_node_end key ≡ true →
+    IsNodeAdded old new indexes from (at + 1)
 open-end old new indexes from at key opened within is_key ends =
     let here : drop at indexes ≡ key ∷ drop (at + 1) indexes =
     drop_more indexes at (pos 0) within ∙ ap (λ x. x ∷ drop (at + 1) indexes) (sym is_key) in
@@ -113,7 +117,8 @@ open-end old new indexes from at key opened within is_key ends =
     }
 
 -- the list stops behind a key
-pub open-short : (old new : List EntryTag) (indexes : List ℤ) (from at : ℕ) (key : ℤ) → IsNodeOpen old new indexes from at →
+pub open-short : (old new : List EntryTag) (indexes : List ℤ) (from at : ℕ) (key : ℤ) →
+    IsNodeOpen old new indexes from at →
     at + 1 ≡ length indexes → key ≡ get_or indexes at (pos 0) → is_node_end key ≡ false →
     IsPrefix old new × (tags_of_each (drop from indexes) ≡ None)
 open-short old new indexes from at key opened last is_key goes_on =
@@ -141,23 +146,27 @@ pub record AreNodesAdded (old new : List EntryTag) (spans : List Span) (indexes 
   pub said : tags_of_each indexes ≡ behind (map (part_in new) spans) (tags_of_each (drop at indexes))
 
 -- the parts of spans stay as their list grows
-pub parts-grown : {T : Type 0} (xs ys : List T) (spans : List Span) → IsPrefix xs ys → All (IsSpanIn (length xs)) spans →
+pub parts-grown : {T : Type 0} (xs ys : List T) (spans : List Span) → IsPrefix xs ys →
+    All (IsSpanIn (length xs)) spans →
     map (part_in ys) spans ≡ map (part_in xs) spans
 parts-grown xs ys [] grown within = refl
 parts-grown xs ys (span ∷ spans) grown within =
     ap (λ part. part ∷ map (part_in ys) spans)
     (part-grown xs ys span grown (All-head (IsSpanIn (length xs)) span spans within))
-    ∙ ap (λ parts. part_in xs span ∷ parts) (parts-grown xs ys spans grown (All-tail (IsSpanIn (length xs)) span spans within))
+    ∙ ap (λ parts. part_in xs span ∷ parts) (parts-grown xs ys spans grown
+    (All-tail (IsSpanIn (length xs)) span spans within))
 
 -- so do the spans
-pub spans-grown : {T : Type 0} (xs ys : List T) (spans : List Span) → IsPrefix xs ys → All (IsSpanIn (length xs)) spans →
+pub spans-grown : {T : Type 0} (xs ys : List T) (spans : List Span) → IsPrefix xs ys →
+    All (IsSpanIn (length xs)) spans →
     All (IsSpanIn (length ys)) spans
 spans-grown xs ys spans grown within =
     All-weaker (IsSpanIn (length xs)) (IsSpanIn (length ys)) (λ span. span-grown xs ys span grown) spans within
 
 -- a node more
 pub nodes-more : (old new more : List EntryTag) (spans : List Span) (span : Span) (indexes : List ℤ) (at next : ℕ) →
-    AreNodesAdded old new spans indexes at → IsNodeAdded new more indexes at next → span.start ≡ length new → span.end ≡ length more →
+    AreNodesAdded old new spans indexes at → IsNodeAdded new more indexes at next → span.start ≡ length new →
+    span.end ≡ length more →
     AreNodesAdded old more (spans ++ span ∷ []) indexes next
 nodes-more old new more spans span indexes at next nodes node start end =
     let grown : IsPrefix new more = record { rest = node.added; joined = node.joined } in
@@ -172,7 +181,8 @@ nodes-more old new more spans span indexes at next nodes node start end =
           All-push (IsSpanIn (length more)) spans span (spans-grown new more spans grown nodes.within)
           (span-added new more node.added span added);
       said =
-          nodes.said ∙ ap (behind (map (part_in new) spans)) (node.said ∙ behind-one node.added (tags_of_each (drop next indexes)))
+          nodes.said ∙ ap (behind (map (part_in new) spans))
+          (node.said ∙ behind-one node.added (tags_of_each (drop next indexes)))
           ∙ behind-behind (map (part_in new) spans) (node.added ∷ []) (tags_of_each (drop next indexes))
           ∙ ap (λ each. behind each (tags_of_each (drop next indexes))) (sym parts);
     }
@@ -186,7 +196,8 @@ node-goes_on (pos n) other = ne_eqb n 0 (λ is. other (ap pos is))
 node-goes_on (negsuc n) other = refl
 
 -- no node was added yet
-pub nodes-none : (tags : List EntryTag) (spans : List Span) (indexes : List ℤ) → spans ≡ [] → AreNodesAdded tags tags spans indexes 0
+pub nodes-none : (tags : List EntryTag) (spans : List Span) (indexes : List ℤ) → spans ≡ [] →
+    AreNodesAdded tags tags spans indexes 0
 nodes-none tags spans indexes none =
     subst (λ s. AreNodesAdded tags tags s indexes 0) (sym none)
     (record {
@@ -207,7 +218,8 @@ each-count count (Some e) each is =
     ap length (sym found.1) ∙ eqb-true (length e) count found.0
 
 -- the nodes that have tags are as many as they should
-pub tags_of_all-count : (count : ℕ) (indexes : List ℤ) (each : List (List EntryTag)) → tags_of_all count indexes ≡ Some each →
+pub tags_of_all-count : (count : ℕ) (indexes : List ℤ) (each : List (List EntryTag)) →
+    tags_of_all count indexes ≡ Some each →
     length each ≡ count
 tags_of_all-count count [] each is =
     ap length (sym (some_equal (replicate count []) each is)) ∙ length-replicate count []

@@ -59,7 +59,8 @@ pub record IsMoreRead (old new : Content) (more : Option (List Entry)) : Type 0 
   pub texts : new.texts ≡ old.texts
 
 -- the entries of a message were read, which says something
-pub record IsPartRead {T : Type 0} (old new : Content) (said : Option T) (entries : T → Option (List Entry)) : Type 0 where
+pub record IsPartRead {T : Type 0} (old new : Content) (said : Option T)
+    (entries : T → Option (List Entry)) : Type 0 where
   pub part : T
   pub said_is : said ≡ Some part
   pub more : IsMoreRead old new (entries part)

@@ -79,8 +79,8 @@ with_first_tag tag None = None
 with_first_tag tag (Some []) = None
 with_first_tag tag (Some (tags ∷ more)) = Some ((tag ∷ tags) ∷ more)
 
--- the tags of each node: pairs of key and value up to a 0 in the place of a key, which ends each node; None where the list
--- stops before such an end
+-- the tags of each node: pairs of key and value up to a 0 in the place of a key, which ends each node; None where the
+-- list stops before such an end
 abbrev pub tags_of_each : List ℤ → Option (List (List EntryTag))
 tags_of_each [] = Some []
 tags_of_each (key ∷ []) = if is_node_end key then Some ([] ∷ []) else None
@@ -88,7 +88,8 @@ tags_of_each (key ∷ value ∷ rest) =
     if is_node_end key then option_map (λ more. [] ∷ more) (tags_of_each (value ∷ rest))
     else with_first_tag (record { key = key; value = value }) (tags_of_each rest)
 
--- the tags of each of so many nodes, none of which has any where the list is empty; None where they are others in number
+-- the tags of each of the given number of nodes, none of which has any where the list is empty; None where they are
+-- others in number
 abbrev pub tags_of_all : ℕ → List ℤ → Option (List (List EntryTag))
 tags_of_all count [] = Some (replicate count [])
 tags_of_all count (index ∷ indexes) = do
@@ -99,7 +100,7 @@ tags_of_all count (index ∷ indexes) = do
 abbrev pub is_full : {T : Type 0} → ℕ → List T → Bool
 is_full count list = length list == 0 || length list == count
 
--- each list of the metadata of so many nodes is empty, or has as many numbers
+-- each list of the metadata of nodes is empty, or has one number for each
 abbrev pub is_info_full : ℕ → DenseInfo → Bool
 is_info_full count info =
     is_full count info.versions && is_full count info.timestamps && is_full count info.changesets
@@ -134,5 +135,6 @@ dense_entry_at d each n = record {
 -- the nodes; None where the lengths of their lists don't fit
 abbrev pub dense_entries : Dense → Option (List Entry)
 dense_entries d = if are_lengths_fit d
-    then option_map (λ each. map (dense_entry_at d each) (range_with_len 0 (length d.ids))) (tags_of_all (length d.ids) d.keys_vals)
+    then option_map (λ each. map (dense_entry_at d each) (range_with_len 0 (length d.ids)))
+    (tags_of_all (length d.ids) d.keys_vals)
     else None

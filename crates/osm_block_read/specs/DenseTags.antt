@@ -34,5 +34,6 @@ pub record AreSpansOf (old new : List EntryTag) (spans : List Span) (each : List
 
 -- the tags of each node were added, where they are said and are as many as they should; else some were added
 abbrev pub AreTagsAdded : List EntryTag → List EntryTag → List Span → Option (List (List EntryTag)) → Bool → Type 0
-AreTagsAdded old new spans said true = (each : List (List EntryTag)) × (said ≡ Some each) × AreSpansOf old new spans each
+AreTagsAdded old new spans said true = (each : List (List EntryTag)) × (said ≡ Some each)
+    × AreSpansOf old new spans each
 AreTagsAdded old new spans said false = IsPrefix old new × (said ≡ None)

@@ -52,7 +52,8 @@ kind_of_number number =
 abbrev pub degrees_at : ℤ → ℤ → ℤ → ℤ
 degrees_at offset granularity value = offset +ℤ (granularity *ℤ value)
 
--- the seconds of a coded time: it times the date granularity, divided by 1,000 and cut toward zero; 0 where it is negative
+-- the seconds of a coded time: it times the date granularity, divided by 1,000 and cut toward zero; 0 where it is
+-- negative
 abbrev pub seconds_at : ℤ → ℤ → ℕ
 seconds_at date_granularity timestamp = counted (int_div (timestamp *ℤ date_granularity) (pos 1000))
 

@@ -38,9 +38,14 @@ info bytes = do
 abbrev pub entry_tags : List ℕ → List ℕ → List EntryTag
 entry_tags [] values = []
 entry_tags (key ∷ keys) [] = []
-entry_tags (key ∷ keys) (value ∷ values) = record { key = pos (uint32 key); value = pos (uint32 value) } ∷ entry_tags keys values
+entry_tags (key ∷ keys) (value ∷ values) = record {
+  key = pos (uint32 key);
+  value =
+      pos (uint32 value);
+} ∷ entry_tags keys values
 
--- what each entity says: its tags and metadata, beside an id, what is proper to its kind, and whether that has even lists
+-- what each entity says: its tags and metadata, beside an id, what is proper to its kind, and whether that has even
+-- lists
 abbrev pub entry_with : ℤ → EntryBody → Bool → List FieldValue → Option Entry
 entry_with id body even fields = do
   keys ← repeated 2 fields

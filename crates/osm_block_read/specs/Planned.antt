@@ -33,7 +33,8 @@ setting_planned raw plan = setting_of raw plan.texts plan.scale
 abbrev pub items_planned : List ℕ → PlanValue → List ItemValue
 items_planned raw plan = map (entry_item (setting_planned raw plan)) plan.entries
 
--- a plan is one of these bytes: its texts lie in them and are UTF-8, and nothing is wrong with what it still has to give
+-- a plan is one of these bytes: its texts lie in them and are UTF-8, and nothing is wrong with what it still has to
+-- give
 pub record IsPlanOf (raw : List ℕ) (plan : PlanValue) : Type 0 where
   pub within : All (IsSpanIn (length raw)) plan.texts
   pub texts : list_all is_utf8 (setting_planned raw plan).texts ≡ true
@@ -45,7 +46,7 @@ pub record IsChecked (raw : List ℕ) (c : Content) : Type 0 where
   pub items : block_said raw ≡ Ok (items_planned raw (content_plan c 0))
   pub planned : IsPlanOf raw (content_plan c 0)
 
--- a refusal has the cause that is said, unless memory was wanted
+-- a refusal has the cause that is said, or is out of memory
 abbrev pub IsRefused : Result (List ItemValue) Cause → BlockError → Type 0
 IsRefused said (Bad cause) = said ≡ Err cause
 IsRefused said Memory = Unit {0}

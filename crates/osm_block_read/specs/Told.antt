@@ -24,9 +24,9 @@ pub record IsNextEntry (entry : List ℕ) (old new : EntriesValue) : Type 0 wher
 
 -- a list behind another, where it is there
 abbrev pub behind : {T : Type 0} → List T → Option (List T) → Option (List T)
-behind front more = option_map (λ rest. front ++ rest) more
+behind first more = option_map (λ rest. first ++ rest) more
 
--- a refusal that isn't want of memory is that of a message that isn't well formed, and this holds
+-- a refusal that isn't out of memory is that of a message that isn't well formed, and this holds
 abbrev pub BadWireWhere : Type 0 → BlockError → Type 0
 BadWireWhere P (Bad cause) = (cause ≡ BadWire) × P
 BadWireWhere P Memory = Unit {0}

@@ -1,9 +1,9 @@
 //! Repeated numbers, packed or not, read into lists that are kept from block to block.
 ghost use Rattle.std.specs.Prelude.{◌≡◌, ◌+ℤ◌, None, Some, OnOk, IfErr, slice_index_or};
 ghost use Rattle.std.specs.Int.{int_wrap, w32, w64};
-ghost use Rattle.osm_wire.specs.Entries.{as_numbers, repeated, whole_front};
+ghost use Rattle.osm_wire.specs.Entries.{as_numbers, repeated, whole_pieces};
 ghost use Rattle.osm_wire.specs.Integers.{sint32, unzigzagged};
-ghost use Rattle.osm_wire.specs.Messages.{packed_front};
+ghost use Rattle.osm_wire.specs.Messages.{packed_pieces};
 ghost use Rattle.osm_wire.specs.Seen.{payload_seen};
 ghost use Rattle.osm_block_read.specs.Told.{BadWireWhere, behind};
 
@@ -75,8 +75,8 @@ fn take_codes(codes: &mut Vec<u64>, value: Value<'_>) -> Result<(), BlockError>
 // Adds the numbers that are packed in these bytes.
 fn take_packed(codes: &mut Vec<u64>, packed: &[u8]) -> Result<(), BlockError>
     ensures ok { OnOk result (
-        behind codes.old.items (whole_front (packed_front packed.now)) ≡ Some codes.new.items) }
-    ensures bad { IfErr result (BadWireWhere (whole_front (packed_front packed.now) ≡ None)) }
+        behind codes.old.items (whole_pieces (packed_pieces packed.now)) ≡ Some codes.new.items) }
+    ensures bad { IfErr result (BadWireWhere (whole_pieces (packed_pieces packed.now) ≡ None)) }
 {
     let mut at = 0;
     while at < packed.len() {

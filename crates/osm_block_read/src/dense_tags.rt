@@ -12,7 +12,7 @@ use osm_wire::int32;
 use std::alloc::AllocError;
 
 impl Lists {
-    /// Adds the tags of so many nodes, and puts the span of each node's into `spans`. It is false
+    /// Adds the tags of `count` nodes, and puts the span of each node's into `spans`. It is false
     /// where the indexes are those of another number of nodes, or stop within a node.
     pub(crate) fn add_dense_tags(
         &mut self,
@@ -43,7 +43,7 @@ impl Lists {
         Ok(spans.len() == count)
     }
 
-    // Puts the empty span of so many nodes without tags into `spans`.
+    // Puts the empty span of each of `count` nodes without tags into `spans`.
     fn no_tags(&self, spans: &mut Vec<Span>, count: usize) -> Result<(), AllocError>
         ensures { OnOk result (AreSpansOf self.now.tags.items self.now.tags.items
             spans.new.items (replicate count [])) }

@@ -164,7 +164,7 @@ fn degrees(offset: i64, granularity: i32, value: i64) -> i128
     offset as i128 + granularity as i128 * value as i128
 }
 
-// Seconds of a time in units of so many milliseconds.
+// Seconds of a time in units of some milliseconds.
 #[inline(always)]
 fn seconds(timestamp: i64, date_granularity: i32) -> Option<u32>
     ensures some { IfSome result (λ t. t ≡ seconds_at date_granularity timestamp) }

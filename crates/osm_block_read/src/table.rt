@@ -37,11 +37,11 @@ pub(crate) fn read_table(spans: &mut Vec<Span>, raw: &[u8], table: Span) -> Resu
     ensures bad { IfErr result (BadWireWhere (table_texts (part_in raw.now table) ≡ None)) }
 {
     spans.clear();
-    let front = &raw[..table.end];
-    let content = &front[table.start..];
-    let _message = Message::new(content).ok_or(BAD_WIRE)?;
+    let begin = &raw[..table.end];
+    let content = &begin[table.start..];
+    Message::new(content).ok_or(BAD_WIRE)?;
     let mut fields = Fields::new(content);
-    while let Some(span) = next_span(front, &mut fields, 1).ok_or(BAD_WIRE)? {
+    while let Some(span) = next_span(begin, &mut fields, 1).ok_or(BAD_WIRE)? {
         spans.push(span)?;
     }
     Ok(())

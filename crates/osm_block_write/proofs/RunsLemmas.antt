@@ -40,12 +40,12 @@ pub runs_of-push : (limit : ℕ) (entities : List EntityValue) (entity : EntityV
 unfolding runs_of
 runs_of-push limit entities entity = with_entities-append limit no_runs entities (entity ∷ [])
 
--- elements of a front and a back
+-- elements of a list and of what follows
 all-append : {X : Type 0} (P : X → Type 0) (xs ys : List X) → AllByRecursion P (xs ++ ys) → AllByRecursion P xs
 all-append P [] ys all = tt
 all-append P (x ∷ xs) ys all = (all.0, all-append P xs ys all.1)
 
--- the element behind a front
+-- the element behind a list
 all-middle : {X : Type 0} (P : X → Type 0) (xs : List X) (y : X) (ys : List X) → AllByRecursion P (xs ++ y ∷ ys) → P y
 all-middle P [] y ys all = all.0
 all-middle P (x ∷ xs) y ys all = all-middle P xs y ys all.1
@@ -337,7 +337,7 @@ closed-with_entities limit r (entity ∷ entities) =
     let more = closed-with_entities limit (with_entity limit r entity) entities in
     (one.0 ++ more.0, more.1 ∙ ap (λ c. c ++ more.0) one.1 ∙ append_assoc r.closed one.0 more.0)
 
--- the closed runs of a front are the first of those of the whole
+-- the closed runs of a prefix are the first of those of the whole
 pub runs_grow : (limit : ℕ) (entities more : List EntityValue) →
     (rest : List (List EntityValue))
     × ((runs_of limit (entities ++ more)).closed ≡ (runs_of limit entities).closed ++ rest)
@@ -347,12 +347,12 @@ runs_grow limit entities more =
     (grown.0, ap (λ r. r.closed) (with_entities-append limit no_runs entities more) ∙ grown.1)
 
 -- what is written of a stream that broke off begins what is written of every stream that goes on
-pub written_runs-front : (limit : ℕ) (entities more : List EntityValue) (end : End) →
+pub written_runs-prefix : (limit : ℕ) (entities more : List EntityValue) (end : End) →
     IsPrefix (written_runs (runs_of limit entities) Broken) (written_runs (runs_of limit (entities ++ more)) end)
-written_runs-front limit entities more Broken =
+written_runs-prefix limit entities more Broken =
     let grown = runs_grow limit entities more in
     record { rest = grown.0; joined = grown.1 }
-written_runs-front limit entities more Done =
+written_runs-prefix limit entities more Done =
     let grown = runs_grow limit entities more in
     let last = open_run (runs_of limit (entities ++ more)).opened in
     record {

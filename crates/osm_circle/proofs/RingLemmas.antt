@@ -50,14 +50,14 @@ turned_differ xs ys different =
     (IsDistinct-IsPermutation eqb eqb_flips _ _ (IsPermutation-append_comm (pipes_over xs) (pipes_over ys))
     (subst (IsDistinct eqb) (map-append (λ (s : Sense). s.pipe) xs ys) (pipes_distinct (xs ++ ys) different))))
 
--- the pairs of a list without its front, and without its end, are pairs of the list
+-- the pairs of a list without its beginning, and without its end, are pairs of the list
 pub pairs_drop : {X : Type 0} (R : X → X → Type 0) (n : ℕ) (xs : List X) → AllPairs R xs → AllPairs R (drop n xs)
 pairs_drop R n xs pairs i j d before below =
     rw (get_or-drop n xs i d, get_or-drop n xs j d)
     (pairs (n + i) (n + j) d (omega (arith, before)) (omega (arith, simp length-drop at below)))
 
-pub pairs_front : {X : Type 0} (R : X → X → Type 0) (xs ys : List X) → AllPairs R (xs ++ ys) → AllPairs R xs
-pairs_front R xs ys pairs i j d before below =
+pub pairs_take : {X : Type 0} (R : X → X → Type 0) (xs ys : List X) → AllPairs R (xs ++ ys) → AllPairs R xs
+pairs_take R xs ys pairs i j d before below =
     rw (sym (get_or_append_left xs ys d i (omega arith)), sym (get_or_append_left xs ys d j below))
     (pairs i j d before (omega (arith, length-append xs ys)))
 
@@ -74,43 +74,43 @@ pub bare_circle : (pipes : List Pipe) (senses : List Sense) (low : ℕ) → IsFo
     low < length senses → ((d : Sense) → All (λ s. (get_or senses low d).pipe ≤ s.pipe) senses) →
     IsBareCircle pipes (drop low senses ++ take low senses)
 bare_circle pipes senses low forward ring within lowest =
-    let front : List Sense = take low senses in
+    let start : List Sense = take low senses in
     let back : List Sense = drop low senses in
-    let whole : front ++ back ≡ senses = take-append-drop low senses in
-    let parts = walk_part pipes ring.closed.0 ring.closed.0 front back
+    let whole : start ++ back ≡ senses = take-append-drop low senses in
+    let parts = walk_part pipes ring.closed.0 ring.closed.0 start back
     (subst (λ list. IsWalk pipes ring.closed.0 list ring.closed.0) (sym whole) ring.closed.1) in
-    let closed : IsWalk pipes parts.0 (back ++ front) parts.0 =
-    walk_join pipes parts.0 ring.closed.0 parts.0 back front parts.1.1 parts.1.0 in
-    let usable : All (IsUsable pipes) (back ++ front) =
-    All-append (IsUsable pipes) back front (All-drop (IsUsable pipes) low senses ring.usable)
+    let closed : IsWalk pipes parts.0 (back ++ start) parts.0 =
+    walk_join pipes parts.0 ring.closed.0 parts.0 back start parts.1.1 parts.1.0 in
+    let usable : All (IsUsable pipes) (back ++ start) =
+    All-append (IsUsable pipes) back start (All-drop (IsUsable pipes) low senses ring.usable)
     (All-take (IsUsable pipes) low senses ring.usable) in
-    let known : All (λ s. s.pipe < length pipes) (back ++ front) =
-    All-weaker (IsUsable pipes) (λ s. s.pipe < length pipes) (λ s can. can.known) (back ++ front) usable in
-    let long : 2 ≤ length (back ++ front) =
+    let known : All (λ s. s.pipe < length pipes) (back ++ start) =
+    All-weaker (IsUsable pipes) (λ s. s.pipe < length pipes) (λ s can. can.known) (back ++ start) usable in
+    let long : 2 ≤ length (back ++ start) =
     omega (
       arith,
-      length-append back front,
-      length-append front back,
+      length-append back start,
+      length-append start back,
       ap length whole,
       ring_long pipes senses forward ring,
     ) in
     let none : Sense = record { pipe = 0; along = false } in
-    let first : first_pipe (back ++ front) ≡ (get_or senses low none).pipe =
-    ap (λ (list : List Sense). first_pipe (list ++ front)) (drop_more senses low none within) in
-    let least : All (λ s. (get_or senses low none).pipe ≤ s.pipe) (back ++ front) =
-    All-append (λ s. (get_or senses low none).pipe ≤ s.pipe) back front
+    let first : first_pipe (back ++ start) ≡ (get_or senses low none).pipe =
+    ap (λ (list : List Sense). first_pipe (list ++ start)) (drop_more senses low none within) in
+    let least : All (λ s. (get_or senses low none).pipe ≤ s.pipe) (back ++ start) =
+    All-append (λ s. (get_or senses low none).pipe ≤ s.pipe) back start
     (All-drop (λ s. (get_or senses low none).pipe ≤ s.pipe) low senses (lowest none))
     (All-take (λ s. (get_or senses low none).pipe ≤ s.pipe) low senses (lowest none)) in
     record {
       long = long;
       known = known;
-      different = turned_differ front back (subst (AllPairs (λ s t. s.pipe ≢ t.pipe)) (sym whole) ring.different);
+      different = turned_differ start back (subst (AllPairs (λ s t. s.pipe ≢ t.pipe)) (sym whole) ring.different);
       closed = (parts.0, closed);
-      along = elim (goes_down pipes parts.0 parts.0 (back ++ front) forward known closed) [
+      along = elim (goes_down pipes parts.0 parts.0 (back ++ start) forward known closed) [
         | inl some ↦ some
         | inr low ↦ absurd (omega (arith, low, long))
       ];
       bare = All-weaker (IsUsable pipes) (λ s. s.along ≡ true → is_spool (pipe_of pipes s.pipe).store ≡ false)
-          (λ s can. can.bare) (back ++ front) usable;
-      lowest = subst (λ n. All (λ s. n ≤ s.pipe) (back ++ front)) (sym first) least;
+          (λ s can. can.bare) (back ++ start) usable;
+      lowest = subst (λ n. All (λ s. n ≤ s.pipe) (back ++ start)) (sym first) least;
     }

@@ -15,7 +15,7 @@ use Rattle.osm_circle.proofs.Trails.{IsLine, IsPruned, IsTrail, tasks_of}
 use Rattle.osm_circle.specs.declared.circle.Sense.{Sense}
 use Rattle.osm_graph.specs.declared.pipe.Pipe.{Pipe}
 use Rattle.osm_circle.specs.declared.live.Live.{Live}
-use Rattle.osm_circle.proofs.RingLemmas.{pairs_drop, pairs_front, pipes_distinct, pipes_over}
+use Rattle.osm_circle.proofs.RingLemmas.{pairs_drop, pairs_take, pipes_distinct, pipes_over}
 use Rattle.osm_circle.proofs.WalkLemmas.{ends_at, ends_elsewhere, same_pipe, starts_at, walk_join, walk_part}
 
 -- no sense of a trail is over the pipe of a sense that can follow it
@@ -179,7 +179,7 @@ shorter pipes old new walk last trail others =
       last = parts.0;
       line = record {
         leads = parts.1.0;
-        different = pairs_front (λ s t. s.pipe ≢ t.pipe) walk (last ∷ []) different;
+        different = pairs_take (λ s t. s.pipe ≢ t.pipe) walk (last ∷ []) different;
         lives = λ k d below.
             let here : get_or (walk ++ last ∷ []) k d ≡ get_or walk k d =
             get_or_append_left walk (last ∷ []) d k below in
@@ -190,7 +190,7 @@ shorter pipes old new walk last trail others =
             (ap (λ (s : Sense). s.pipe) (here ∙ same ∙ sym there))) ∙
             ap (is_live old) (sym here) ∙ trail.line.lives k d (omega (arith, below, length_push walk last));
       };
-      apart = pairs_front (λ a b. a ≢ b) (tasks_of pipes trail.first walk) (sense_end pipes last ∷ [])
+      apart = pairs_take (λ a b. a ≢ b) (tasks_of pipes trail.first walk) (sense_end pipes last ∷ [])
           (subst (λ list. AllPairs (λ a b. a ≢ b) (trail.first ∷ list)) (map_push (sense_end pipes) walk last)
           trail.apart);
     }

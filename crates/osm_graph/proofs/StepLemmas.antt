@@ -21,9 +21,9 @@ rest_at xs at x within is =
     drop-cons xs at x within ∙ ap (λ y. y ∷ drop (suc at) xs) (sym is) ∙ ap (λ n. x ∷ drop n xs) next
 
 -- and up to the next place those before it and the element
-front_at : {X : Type 0} (xs : List X) (at : ℕ) (x : X) → at < length xs → x ≡ get_or xs at x →
+prefix_at : {X : Type 0} (xs : List X) (at : ℕ) (x : X) → at < length xs → x ≡ get_or xs at x →
     take (at + 1) xs ≡ take at xs ++ x ∷ []
-front_at xs at x within is = take_more xs at x within ∙ ap (λ y. take at xs ++ y ∷ []) (sym is)
+prefix_at xs at x within is = take_more xs at x within ∙ ap (λ y. take at xs ++ y ∷ []) (sym is)
 
 -- the ports of one task more
 pub ports-step : (tasks : List TaskValue) (at n : ℕ) (task : TaskValue) (whole done pushed : List PortValue) →
@@ -34,7 +34,7 @@ ports-step tasks at n task whole done pushed within is same added before =
     ∙ ap (λ rest. done ++ ports_from at rest) (rest_at tasks at task within is)
     ∙ sym (append_assoc done (ports_of_task at task) (ports_from (at + 1) (drop (at + 1) tasks)))
     ∙ ap (λ k. done ++ ports_of_task k task ++ ports_from (at + 1) (drop (at + 1) tasks)) (sym same)
-    ∙ ap (λ front. front ++ ports_from (at + 1) (drop (at + 1) tasks)) (sym added)
+    ∙ ap (λ prefix. prefix ++ ports_from (at + 1) (drop (at + 1) tasks)) (sym added)
 
 -- what is left of the faults with its first port apart
 faults_at : (ports : List PortValue) (at : ℕ) (port : PortValue) → at < length ports → port ≡ get_or ports at port →
@@ -42,8 +42,8 @@ faults_at : (ports : List PortValue) (at : ℕ) (port : PortValue) → at < leng
     ≡ option_or (port_fault (take at ports) port) (ports_fault (take (at + 1) ports) (drop (at + 1) ports))
 faults_at ports at port within is =
     ap (ports_fault (take at ports)) (rest_at ports at port within is)
-    ∙ ap (λ front. option_or (port_fault (take at ports) port) (ports_fault front (drop (at + 1) ports)))
-    (sym (front_at ports at port within is))
+    ∙ ap (λ prefix. option_or (port_fault (take at ports) port) (ports_fault prefix (drop (at + 1) ports)))
+    (sym (prefix_at ports at port within is))
 
 -- a port without a fault leaves the faults of the others
 pub faults-step : (ports : List PortValue) (at : ℕ) (port : PortValue) (whole : Option GraphError) →
@@ -71,11 +71,11 @@ pub readers-step : (ports : List PortValue) (at : ℕ) (port : PortValue) (whole
 readers-step ports at port whole done more pushed within is reads added before =
     before
     ∙ ap (λ rest. done ++ readers_of (take at ports) rest) (rest_at ports at port within is)
-    ∙ ap (λ front. done ++ (reader_of (take at ports) port ++ readers_of front (drop (at + 1) ports)))
-    (sym (front_at ports at port within is))
+    ∙ ap (λ prefix. done ++ (reader_of (take at ports) port ++ readers_of prefix (drop (at + 1) ports)))
+    (sym (prefix_at ports at port within is))
     ∙ ap (λ here. done ++ (here ++ readers_of (take (at + 1) ports) (drop (at + 1) ports))) reads
     ∙ sym (append_assoc done more (readers_of (take (at + 1) ports) (drop (at + 1) ports)))
-    ∙ ap (λ front. front ++ readers_of (take (at + 1) ports) (drop (at + 1) ports)) (sym added)
+    ∙ ap (λ prefix. prefix ++ readers_of (take (at + 1) ports) (drop (at + 1) ports)) (sym added)
 
 -- the pipes that are joined and those after them
 abbrev pub after_pipes : List Pipe → Result (List Pipe) GraphError → Result (List Pipe) GraphError
@@ -148,9 +148,9 @@ files_at : (tasks : List TaskValue) (at : ℕ) (task : TaskValue) → at < lengt
     (file_fault_from (at + 1) (take (at + 1) tasks) (drop (at + 1) tasks))
 files_at tasks at task within is =
     ap (file_fault_from at (take at tasks)) (rest_at tasks at task within is)
-    ∙ ap (λ front. option_or (task_clash at task (take at tasks))
-    (file_fault_from (at + 1) front (drop (at + 1) tasks)))
-    (sym (front_at tasks at task within is))
+    ∙ ap (λ prefix. option_or (task_clash at task (take at tasks))
+    (file_fault_from (at + 1) prefix (drop (at + 1) tasks)))
+    (sym (prefix_at tasks at task within is))
 
 -- a task has the file of an earlier one
 pub clash-found : (tasks cut : List TaskValue) (at earlier n m : ℕ) (kind : TaskKind) (task : TaskValue) →

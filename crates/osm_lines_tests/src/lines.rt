@@ -167,7 +167,7 @@ fn read<R: Abort + AllocGlobal>(rt: &R, line: &[u8], flow: Flow) -> LineRead {
     read_line(rt.alloc(), line, flow).expect(rt, "a line")
 }
 
-/// Whether each of so many lines is bad for the cause that is said of it.
+/// Whether each of the first `count` lines is bad for the cause that is said of it.
 fn are_bad<R: Abort + AllocGlobal>(rt: &R, count: u32, lines: &[u8], flow: Flow) {
     let mut rest = lines;
     for _line in 0..count {
@@ -188,7 +188,7 @@ fn is_written<R: Abort + AllocGlobal>(rt: &R, item: &Item, written: &[u8]) -> bo
     out.as_slice().strip_suffix(b"\n") == Some(written)
 }
 
-/// Whether each of so many lines says that this is done with an item, which is written so.
+/// Whether each of the first `count` lines says that this is done with an item, which is written so.
 fn are_changes<R: Abort + AllocGlobal>(rt: &R, count: u32, lines: &[u8]) {
     let mut rest = lines;
     for _line in 0..count {
@@ -203,7 +203,7 @@ fn are_changes<R: Abort + AllocGlobal>(rt: &R, count: u32, lines: &[u8]) {
     }
 }
 
-/// Whether each of so many lines says nothing.
+/// Whether each of the first `count` lines says nothing.
 fn are_skipped<R: Abort + AllocGlobal>(rt: &R, count: u32, lines: &[u8]) {
     let mut rest = lines;
     for _line in 0..count {

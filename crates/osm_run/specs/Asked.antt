@@ -30,7 +30,8 @@ abbrev pub list_asked : Result (List TaskWords) WordsError → Result GraphValue
 list_asked (Err error) = Err (Words error)
 list_asked (Ok list) = tasks_asked (resolved list)
 
--- the graph that words ask for, or the fault of the first refusal: of the words, then of a task, then of pipes and files
+-- the graph that words ask for, or the fault of the first refusal: of the words, then of a task, then of pipes and
+-- files
 abbrev pub graph_asked : List (List ℕ) → Result GraphValue Fault
 graph_asked words = list_asked (split_words words)
 

@@ -1,7 +1,7 @@
 pub mod AnswerLemmas
 pub mod EntryLemmas
 pub mod FieldLemmas
-pub mod FrontLemmas
+pub mod PiecesLemmas
 pub mod NumberLemmas
 pub mod PayloadLemmas
 pub mod TagLemmas

@@ -1,4 +1,4 @@
--- The number at the front of bytes is the one that they spell, and it is refused as it should be.
+-- The number at the beginning of bytes is the one that they spell, and it is refused as it should be.
 use Rattle.std.proofs.Common.{◌≡◌, ◌∙◌, ◌<◌, ◌≤◌, ◌-◌, ◌+◌, ◌*◌, ◌%◌, ◌^◌, ◌++◌, ℕ, List, Option, Some, None, Ok, Err, length, take, get_or, refl, ap, sym, subst, inl, inr, arith, length-take, length-append}
 use Rattle.std.specs.Prelude.{nat_lt, min}
 use Rattle.std.specs.List.{position}
@@ -8,35 +8,35 @@ use Rattle.std.proofs.lemmas.List.{take_at, take_all, get_or-take, get_or_append
 use Rattle.std.proofs.lemmas.List.Quantifiers.{position-Some}
 use Rattle.std.proofs.Math.Pow.{pow_mono}
 use Rattle.osm_wire.specs.Refusals.{RefusesNumber}
-use Rattle.osm_wire.specs.Varints.{SpellsNumber, varint_value, is_last_byte, front_number, number_ending, number_fitting}
+use Rattle.osm_wire.specs.Varints.{SpellsNumber, varint_value, is_last_byte, leading_number, number_ending, number_fitting}
 use Rattle.osm_wire.specs.declared.error.WireError.{WireError}
 use Rattle.osm_wire.specs.declared.error.WireError.TheVariants.{Short, Overlong, Group, BadWire}
 use Rattle.osm_wire.proofs.AnswerLemmas.{chosen, err_ok, same_error}
-use Rattle.osm_wire.proofs.VarintLemmas.{GoOn, GoOn-take, front_number-ends, front_number-overlong, front_number-short, none-goes_on, position-at, position-none, take-GoOn, varint_value-small, varint_value_more}
+use Rattle.osm_wire.proofs.VarintLemmas.{GoOn, GoOn-take, leading_number-ends, leading_number-overlong, leading_number-short, none-goes_on, position-at, position-none, take-GoOn, varint_value-small, varint_value_more}
 
 -- what is refused is answered so
-pub front_number-refused : (bytes : List ℕ) (error : WireError) → RefusesNumber bytes error →
-    front_number bytes ≡ Err error
-front_number-refused bytes Short is = front_number-short bytes is.0 is.1
-front_number-refused bytes Overlong is = front_number-overlong bytes is.0 is.1 is.2
-front_number-refused bytes BadWire is = absurd is
-front_number-refused bytes Group is = absurd is
+pub leading_number-refused : (bytes : List ℕ) (error : WireError) → RefusesNumber bytes error →
+    leading_number bytes ≡ Err error
+leading_number-refused bytes Short is = leading_number-short bytes is.0 is.1
+leading_number-refused bytes Overlong is = leading_number-overlong bytes is.0 is.1 is.2
+leading_number-refused bytes BadWire is = absurd is
+leading_number-refused bytes Group is = absurd is
 
 -- what bytes spell is read, whatever follows
-pub front_number-spelled : (bytes rest : List ℕ) (n : ℕ) → SpellsNumber bytes n →
-    front_number (bytes ++ rest) ≡ Ok (n, length bytes)
-front_number-spelled bytes rest n s =
+pub leading_number-spelled : (bytes rest : List ℕ) (n : ℕ) → SpellsNumber bytes n →
+    leading_number (bytes ++ rest) ≡ Ok (n, length bytes)
+leading_number-spelled bytes rest n s =
     let before : ℕ = length bytes - 1 in
     let first = position-Some is_last_byte bytes before 0 s.ended in
     let size : length bytes ≡ before + 1 = omega (arith, first.0) in
     let same : (k : ℕ) → k < length bytes → get_or (bytes ++ rest) k 0 ≡ get_or bytes k 0 =
     λ k below. get_or_append_left bytes rest 0 k below in
     let long : length (bytes ++ rest) ≡ length bytes + length rest = length-append bytes rest in
-    let front : take (before + 1) (bytes ++ rest) ≡ bytes = take_at bytes rest (before + 1) size in
+    let begin : take (before + 1) (bytes ++ rest) ≡ bytes = take_at bytes rest (before + 1) size in
     let read =
-    front_number-ends (bytes ++ rest) before n (omega (arith, s.within, size)) (omega (arith, long, size))
+    leading_number-ends (bytes ++ rest) before n (omega (arith, s.within, size)) (omega (arith, long, size))
     (λ k below. rw (same k (omega (arith, below, size))) (first.2 k below))
-    (rw (same before first.0) (ltb-true (get_or bytes before 0) 128 first.1)) (rw front (sym s.value)) s.fits in
+    (rw (same before first.0) (ltb-true (get_or bytes before 0) 128 first.1)) (rw begin (sym s.value)) s.fits in
     read ∙ ap (λ k. Ok (n, k)) (sym size)
 
 -- a number that is read fits
@@ -79,10 +79,10 @@ ending-read bytes n size (Some last) found read =
     rw (sym is.1) (omega (arith, first.0, ten), spelled)
 
 -- what is read was spelled
-pub front_number-read : (bytes : List ℕ) (n size : ℕ) → front_number bytes ≡ Ok (n, size) →
+pub leading_number-read : (bytes : List ℕ) (n size : ℕ) → leading_number bytes ≡ Ok (n, size) →
     (size ≤ length bytes) × SpellsNumber (take size bytes) n
-unfolding front_number
-front_number-read bytes n size read = ending-read bytes n size (position is_last_byte (take 10 bytes)) refl read
+unfolding leading_number
+leading_number-read bytes n size read = ending-read bytes n size (position is_last_byte (take 10 bytes)) refl read
 
 -- more than 64 bits up to a last byte among the first ten, of which those before it go on, are overlong
 overlong-value : (bytes : List ℕ) (last : ℕ) → last ≤ 9 → last < length bytes → GoOn bytes last →
@@ -145,10 +145,11 @@ ending-refuses bytes error (Some last) found answer =
     ]
 
 -- what is answered as an error is refused
-pub front_number-refuses : (bytes : List ℕ) (error : WireError) → front_number bytes ≡ Err error →
+pub leading_number-refuses : (bytes : List ℕ) (error : WireError) → leading_number bytes ≡ Err error →
     RefusesNumber bytes error
-unfolding front_number
-front_number-refuses bytes error answer = ending-refuses bytes error (position is_last_byte (take 10 bytes)) refl answer
+unfolding leading_number
+leading_number-refuses bytes error answer = ending-refuses bytes error
+    (position is_last_byte (take 10 bytes)) refl answer
 
 -- a spelled number has bytes
 pub SpellsNumber-some : (bytes : List ℕ) (n : ℕ) → SpellsNumber bytes n → 0 < length bytes

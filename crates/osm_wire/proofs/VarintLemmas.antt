@@ -1,4 +1,4 @@
--- How the number at the front of bytes follows from its bytes, one more at a time.
+-- How the number at the beginning of bytes follows from its bytes, one more at a time.
 use Rattle.std.proofs.Common.{◌≡◌, ◌∙◌, ◌<◌, ◌≤◌, ◌+◌, ◌*◌, ◌%◌, ◌^◌, ◌++◌, ◌∷◌, [], ℕ, true, false, List, Some, None, Ok, Err, length, take, get_or, suc, refl, ap, sym, inl, inr, lit<, arith, mul_assoc, length-take}
 use Rattle.std.specs.Prelude.{nat_lt, min}
 use Rattle.std.specs.List.{position, position_or_len}
@@ -8,11 +8,11 @@ use Rattle.std.proofs.lemmas.List.Sums.{position_or_len_is, fails_before_first}
 use Rattle.std.proofs.lemmas.Nat.{pow-add, mul-le}
 use Rattle.std.proofs.Math.Nat.{mod-eq_of_lt}
 use Rattle.std.proofs.Math.Pow.{pow_mono}
-use Rattle.osm_wire.specs.Varints.{varint_value, is_last_byte, front_number}
+use Rattle.osm_wire.specs.Varints.{varint_value, is_last_byte, leading_number}
 use Rattle.osm_wire.specs.declared.error.WireError.TheVariants.{Short, Overlong}
 use Rattle.osm_wire.proofs.AnswerLemmas.{chosen}
 
--- so many bytes at the front go on
+-- the first `size` bytes go on
 abbrev pub GoOn : List ℕ → ℕ → Type 0
 GoOn bytes size = (k : ℕ) → k < size → is_last_byte (get_or bytes k 0) ≡ false
 
@@ -77,7 +77,7 @@ none-goes_on bytes none k below =
           fails_before_first is_last_byte bytes k 0 (omega (arith, far, below))
     ]
 
--- the bytes of a front of bytes are those of the bytes
+-- the bytes of a prefix of bytes are those of the bytes
 pub take-GoOn : (bytes : List ℕ) (count size : ℕ) → size ≤ count → GoOn bytes size → GoOn (take count bytes) size
 take-GoOn bytes count size within more k below =
     rw (get_or-take count bytes k 0 (omega (arith, below, within))) (more k below)
@@ -99,11 +99,11 @@ GoOn-more bytes size more goes_on k below = elim (cases_lt k size) [
 ]
 
 -- a byte below 128 among the first ten ends the number
-pub front_number-ends : (bytes : List ℕ) (size number : ℕ) → size ≤ 9 → size < length bytes → GoOn bytes size →
+pub leading_number-ends : (bytes : List ℕ) (size number : ℕ) → size ≤ 9 → size < length bytes → GoOn bytes size →
     get_or bytes size 0 < 128 → number ≡ varint_value (take (size + 1) bytes) → number < 2 ^ 64 →
-    front_number bytes ≡ Ok (number, size + 1)
-unfolding front_number
-front_number-ends bytes size number short within more ends value fits =
+    leading_number bytes ≡ Ok (number, size + 1)
+unfolding leading_number
+leading_number-ends bytes size number short within more ends value fits =
     let long : length (take 10 bytes) ≡ min 10 (length bytes) = length-take 10 bytes in
     let found : position is_last_byte (take 10 bytes) ≡ Some size =
     position-at (take 10 bytes) size (omega (arith, long, within, short))
@@ -112,22 +112,22 @@ front_number-ends bytes size number short within more ends value fits =
     rw (found, sym value, lt-ltb number (2 ^ 64) fits) refl
 
 -- one byte below 128 is its number
-pub front_number-one : (bytes : List ℕ) → 0 < length bytes → get_or bytes 0 0 < 128 →
-    front_number bytes ≡ Ok (get_or bytes 0 0, 1)
-front_number-one bytes within ends =
-    front_number-ends bytes 0 (get_or bytes 0 0) (omega arith) within (λ k below. absurd (omega (arith, below))) ends
+pub leading_number-one : (bytes : List ℕ) → 0 < length bytes → get_or bytes 0 0 < 128 →
+    leading_number bytes ≡ Ok (get_or bytes 0 0, 1)
+leading_number-one bytes within ends =
+    leading_number-ends bytes 0 (get_or bytes 0 0) (omega arith) within (λ k below. absurd (omega (arith, below))) ends
     (omega (arith, varint_value_more bytes 0 within, ends)) (omega (arith, ends))
 
 -- nine bytes that go on and a tenth of at most 1 are a number
-pub front_number-ten : (bytes : List ℕ) (number tenth : ℕ) → 9 < length bytes →
+pub leading_number-ten : (bytes : List ℕ) (number tenth : ℕ) → 9 < length bytes →
     position is_last_byte (take 9 bytes) ≡ None →
     number ≡ varint_value (take 9 bytes) → number < 2 ^ 63 → get_or bytes 9 0 ≡ tenth → tenth ≤ 1 →
-    front_number bytes ≡ Ok (number + tenth * 2 ^ 63, 10)
-front_number-ten bytes number tenth within none value small is least =
+    leading_number bytes ≡ Ok (number + tenth * 2 ^ 63, 10)
+leading_number-ten bytes number tenth within none value small is least =
     let nine : length (take 9 bytes) ≡ 9 = length-take-le 9 bytes (omega (arith, within)) in
     let more : GoOn bytes 9 = GoOn-take bytes 9 9 (omega arith) (rw nine at (none-goes_on (take 9 bytes) none)) in
     let next = varint_value_more bytes 9 within in
-    front_number-ends bytes 9 (number + tenth * 2 ^ 63) (omega arith) within more (omega (arith, is, least))
+    leading_number-ends bytes 9 (number + tenth * 2 ^ 63) (omega arith) within more (omega (arith, is, least))
     (omega (arith, next, is, least, value)) (omega (arith, small, least))
 
 -- seven bits more below the 64th
@@ -150,10 +150,10 @@ number_more bytes size number short within value small =
     )
 
 -- fewer than ten bytes that go on are short
-pub front_number-short : (bytes : List ℕ) → length bytes < 10 → position is_last_byte bytes ≡ None →
-    front_number bytes ≡ Err Short
-unfolding front_number
-front_number-short bytes few none =
+pub leading_number-short : (bytes : List ℕ) → length bytes < 10 → position is_last_byte bytes ≡ None →
+    leading_number bytes ≡ Err Short
+unfolding leading_number
+leading_number-short bytes few none =
     rw (take_all 10 bytes (omega (arith, few)), none, lt-ltb (length bytes) 10 few) refl
 
 -- the number of ten bytes whose last is above 1 has more than 64 bits
@@ -163,10 +163,10 @@ overlong_value bytes within much ends =
     rw (varint_value_more bytes 9 within) (omega (arith, mod-eq_of_lt ends, much))
 
 -- nine bytes that go on and a tenth above 1 are overlong
-pub front_number-overlong : (bytes : List ℕ) → 9 < length bytes → position is_last_byte (take 9 bytes) ≡ None →
-    1 < get_or bytes 9 0 → front_number bytes ≡ Err Overlong
-unfolding front_number
-front_number-overlong bytes within none much =
+pub leading_number-overlong : (bytes : List ℕ) → 9 < length bytes → position is_last_byte (take 9 bytes) ≡ None →
+    1 < get_or bytes 9 0 → leading_number bytes ≡ Err Overlong
+unfolding leading_number
+leading_number-overlong bytes within none much =
     let nine : length (take 9 bytes) ≡ 9 = length-take-le 9 bytes (omega (arith, within)) in
     let ten : length (take 10 bytes) ≡ 10 = length-take-le 10 bytes (omega (arith, within)) in
     let more : GoOn bytes 9 = GoOn-take bytes 9 9 (omega arith) (rw nine at (none-goes_on (take 9 bytes) none)) in

@@ -6,19 +6,19 @@ use Rattle.std.proofs.lemmas.Bool.{lt-ltb, le-ltb, cases_lt}
 use Rattle.std.proofs.lemmas.List.{append-nil, append_assoc, take_more_set}
 use Rattle.std.proofs.lemmas.List.Elements.{All-head, All-tail}
 use Rattle.std.proofs.lemmas.Nat.{pow-add}
-use Rattle.osm_wire.specs.Entries.{message_fields, whole_front}
-use Rattle.osm_wire.specs.Fronts.{SpellsAll}
-use Rattle.osm_wire.specs.Messages.{FieldValue, Payload, Varint, Fixed64, Bytes, Fixed32, SpellsField, SpellsPayload, field_tag, front_field, good_front, packed_front}
+use Rattle.osm_wire.specs.Entries.{message_fields, whole_pieces}
+use Rattle.osm_wire.specs.Pieces.{SpellsAll}
+use Rattle.osm_wire.specs.Messages.{FieldValue, Payload, Varint, Fixed64, Bytes, Fixed32, SpellsField, SpellsPayload, field_tag, good_front, leading_field, packed_pieces}
 use Rattle.osm_wire.specs.Refusals.{RefusesField, RefusesNumber}
-use Rattle.osm_wire.specs.Varints.{SpellsNumber, front_number, varint_value}
+use Rattle.osm_wire.specs.Varints.{SpellsNumber, leading_number, varint_value}
 use Rattle.osm_wire.specs.Written.{IsField, IsPayload, packed, shortest_varint, varint_within, written_field, written_message, written_payload}
 use Rattle.osm_wire.proofs.FieldLemmas.{fields_read, numbers_read}
-use Rattle.osm_wire.proofs.FrontLemmas.{front_of-spelled}
+use Rattle.osm_wire.proofs.PiecesLemmas.{pieces_of-spelled}
 use Rattle.osm_wire.proofs.NumberLemmas.{SpellsNumber-some}
 use Rattle.osm_wire.proofs.TagLemmas.{IsTag-field}
 use Rattle.osm_wire.proofs.VarintLemmas.{GoOn, position-at, varint_value-small}
 
--- bytes spell a number, in at most so many bytes
+-- bytes spell a number, in at most the given number of bytes
 record IsSpelling (bytes : List ℕ) (most n : ℕ) : Type 0 where
   pub some : 0 < length bytes
   pub within : length bytes ≤ most
@@ -188,22 +188,22 @@ SpellsAll-flat_map Spelled Good write each (item ∷ items) all = (
 )
 
 -- fields that are written are read back
-pub written_message-front : (fields : List FieldValue) → All IsField fields →
+pub written_message-pieces : (fields : List FieldValue) → All IsField fields →
     good_front (written_message fields) ≡ record { items = fields; fault = None }
-written_message-front fields all =
+written_message-pieces fields all =
     ap (λ bytes. good_front bytes) (sym (append-nil (written_message fields)))
-    ∙ front_of-spelled front_field SpellsField RefusesField fields_read fields (written_message fields) [] None
+    ∙ pieces_of-spelled leading_field SpellsField RefusesField fields_read fields (written_message fields) [] None
     (SpellsAll-flat_map SpellsField IsField written_field written_field-spells fields all) refl
 
 -- and as a message
 pub written_message-fields : (fields : List FieldValue) → All IsField fields →
     message_fields (written_message fields) ≡ Some fields
-written_message-fields fields all = ap (λ front. whole_front front) (written_message-front fields all)
+written_message-fields fields all = ap (λ pieces. whole_pieces pieces) (written_message-pieces fields all)
 
 -- packed numbers are read back
-pub packed-front : (numbers : List ℕ) → All (λ n. n < 2 ^ 64) numbers →
-    packed_front (packed numbers) ≡ record { items = numbers; fault = None }
-packed-front numbers all =
-    ap (λ bytes. packed_front bytes) (sym (append-nil (packed numbers)))
-    ∙ front_of-spelled front_number SpellsNumber RefusesNumber numbers_read numbers (packed numbers) [] None
+pub packed-pieces : (numbers : List ℕ) → All (λ n. n < 2 ^ 64) numbers →
+    packed_pieces (packed numbers) ≡ record { items = numbers; fault = None }
+packed-pieces numbers all =
+    ap (λ bytes. packed_pieces bytes) (sym (append-nil (packed numbers)))
+    ∙ pieces_of-spelled leading_number SpellsNumber RefusesNumber numbers_read numbers (packed numbers) [] None
     (SpellsAll-flat_map SpellsNumber (λ n. n < 2 ^ 64) shortest_varint shortest_varint-spells numbers all) refl

@@ -5,8 +5,8 @@ use Rattle.std.specs.Prelude.{ℕ, List, [], ◌∷◌, ◌==◌, Option, Some, 
 use Rattle.std.specs.List.{concat}
 use Rattle.std.specs.Option.{option_map}
 use Rattle.osm_wire.specs.declared.error.WireError.{WireError}
-use Rattle.osm_wire.specs.Fronts.{Front}
-use Rattle.osm_wire.specs.Messages.{FieldValue, Payload, Varint, Fixed64, Bytes, Fixed32, good_front, packed_front}
+use Rattle.osm_wire.specs.Pieces.{Pieces}
+use Rattle.osm_wire.specs.Messages.{FieldValue, Payload, Varint, Fixed64, Bytes, Fixed32, good_front, packed_pieces}
 
 infixl 10 ◌>>=◌
 -- a value handed on, where there is one
@@ -20,12 +20,12 @@ unless_refused None x = Some x
 unless_refused (Some error) x = None
 
 -- the pieces, where they are all the bytes
-abbrev pub whole_front : {T : Type 0} → Front T → Option (List T)
-whole_front front = unless_refused front.fault front.items
+abbrev pub whole_pieces : {T : Type 0} → Pieces T → Option (List T)
+whole_pieces pieces = unless_refused pieces.fault pieces.items
 
 -- the fields of a message, where it is well formed
 abbrev pub message_fields : List ℕ → Option (List FieldValue)
-message_fields message = whole_front (good_front message)
+message_fields message = whole_pieces (good_front message)
 
 -- what every element says, in order, where each says something
 abbrev pub all_said : {A B : Type 0} → (A → Option B) → List A → Option (List B)
@@ -53,7 +53,7 @@ as_bytes (Fixed32 four) = None
 abbrev pub as_numbers : Payload → Option (List ℕ)
 as_numbers (Varint n) = Some (n ∷ [])
 as_numbers (Fixed64 eight) = None
-as_numbers (Bytes content) = whole_front (packed_front content)
+as_numbers (Bytes content) = whole_pieces (packed_pieces content)
 as_numbers (Fixed32 four) = None
 
 -- the payloads of the entries of a field, in order

@@ -1,5 +1,5 @@
 pub mod Entries
-pub mod Fronts
+pub mod Pieces
 pub mod Integers
 pub mod Messages
 pub mod Refusals

@@ -3,8 +3,8 @@
 use Rattle.std.specs.Prelude.{ℕ, ◌+◌, ◌/◌, ◌%◌, ◌*◌, ◌^◌, ◌≡◌, ◌<◌, ◌==◌, ◌||◌, ◌++◌, List, Option, Some, None, Result, Ok, Err, length, take, drop, nat_lt, nat_le, if◌then◌else◌}
 use Rattle.osm_wire.specs.declared.error.WireError.{WireError}
 use Rattle.osm_wire.specs.declared.error.WireError.TheVariants.{Short, Group, BadWire}
-use Rattle.osm_wire.specs.Fronts.{Front, SpellsAll, front_of}
-use Rattle.osm_wire.specs.Varints.{SpellsNumber, front_number}
+use Rattle.osm_wire.specs.Pieces.{Pieces, SpellsAll, pieces_of}
+use Rattle.osm_wire.specs.Varints.{SpellsNumber, leading_number}
 
 -- what a field holds: a number, eight bytes, some bytes or four bytes
 pub data Payload : Type 0 where
@@ -33,7 +33,8 @@ field_tag field = field.number * 8 + wire_type field.value
 abbrev pub IsFieldNumber : ℕ → Type 0
 IsFieldNumber number = (0 < number) × (number < 2 ^ 29)
 
--- bytes spell a payload: as a varint, as the eight bytes, as a length and then so many bytes, or as the four bytes
+-- bytes spell a payload: as a varint, as the eight bytes, as a length and then that number of bytes, or as the four
+-- bytes
 abbrev pub SpellsPayload : List ℕ → Payload → Type 0
 SpellsPayload bytes (Varint n) = SpellsNumber bytes n
 SpellsPayload bytes (Fixed64 eight) = (bytes ≡ eight) × (length eight ≡ 8)
@@ -65,7 +66,7 @@ abbrev pub varint_payload : Result (ℕ × ℕ) WireError → Result (Payload ×
 varint_payload (Err error) = Err error
 varint_payload (Ok (n, size)) = Ok (Varint n, size)
 
--- a payload of so many bytes at the front of bytes
+-- the payload of the given number of bytes at the beginning of bytes
 abbrev pub sized_payload : ℕ → (List ℕ → Payload) → List ℕ → Result (Payload × ℕ) WireError
 sized_payload size holding bytes =
     if nat_lt (length bytes) size then Err Short else Ok (holding (take size bytes), size)
@@ -77,37 +78,37 @@ counted_payload bytes (Ok (count, size)) =
     if nat_lt (length bytes) (size + count) then Err Short
     else Ok (Bytes (take count (drop size bytes)), size + count)
 
--- the payload of a wire type at the front of bytes, and how many bytes it takes
-abbrev pub front_payload : ℕ → List ℕ → Result (Payload × ℕ) WireError
-front_payload kind bytes =
-    if kind == 0 then varint_payload (front_number bytes)
+-- the payload of a wire type at the beginning of bytes, and how many bytes it takes
+abbrev pub leading_payload : ℕ → List ℕ → Result (Payload × ℕ) WireError
+leading_payload kind bytes =
+    if kind == 0 then varint_payload (leading_number bytes)
     else if kind == 1 then sized_payload 8 Fixed64 bytes
-    else if kind == 2 then counted_payload bytes (front_number bytes)
+    else if kind == 2 then counted_payload bytes (leading_number bytes)
     else sized_payload 4 Fixed32 bytes
 
--- a payload as that of the field of a number, whose tag took so many bytes
+-- a payload as that of the field of a number, whose tag took some bytes
 abbrev pub numbered_field : ℕ → ℕ → Result (Payload × ℕ) WireError → Result (FieldValue × ℕ) WireError
 numbered_field number size (Err error) = Err error
 numbered_field number size (Ok (payload, more)) = Ok (record { number = number; value = payload }, size + more)
 
--- the field behind a tag that took so many bytes, where the tag begins one
+-- the field behind a tag that took some bytes, where the tag begins one
 abbrev pub tagged_field : Option WireError → ℕ → ℕ → List ℕ → Result (FieldValue × ℕ) WireError
 tagged_field (Some error) tag size bytes = Err error
-tagged_field None tag size bytes = numbered_field (tag / 8) size (front_payload (tag % 8) (drop size bytes))
+tagged_field None tag size bytes = numbered_field (tag / 8) size (leading_payload (tag % 8) (drop size bytes))
 
--- the field behind the number at the front of bytes
+-- the field behind the number at the beginning of bytes
 abbrev pub field_behind : Result (ℕ × ℕ) WireError → List ℕ → Result (FieldValue × ℕ) WireError
 field_behind (Err error) bytes = Err error
 field_behind (Ok (tag, size)) bytes = tagged_field (tag_fault tag) tag size bytes
 
--- the field at the front of bytes, and how many bytes it takes
-unfoldable pub front_field : List ℕ → Result (FieldValue × ℕ) WireError
-front_field bytes = field_behind (front_number bytes) bytes
+-- the field at the beginning of bytes, and how many bytes it takes
+unfoldable pub leading_field : List ℕ → Result (FieldValue × ℕ) WireError
+leading_field bytes = field_behind (leading_number bytes) bytes
 
--- the good front of a message, and why it isn't the whole message
-abbrev pub good_front : List ℕ → Front FieldValue
-good_front message = front_of front_field message
+-- the good fields of a message, and why they aren't the whole message
+abbrev pub good_front : List ℕ → Pieces FieldValue
+good_front message = pieces_of leading_field message
 
 -- the numbers of a packed payload, and why they aren't the whole payload
-abbrev pub packed_front : List ℕ → Front ℕ
-packed_front bytes = front_of front_number bytes
+abbrev pub packed_pieces : List ℕ → Pieces ℕ
+packed_pieces bytes = pieces_of leading_number bytes

@@ -4,7 +4,7 @@ use Rattle.std.specs.Prelude.{ℕ, ◌%◌, ◌≡◌, ◌<◌, List, ◌++◌, 
 use Rattle.std.specs.List.{position}
 use Rattle.osm_wire.specs.declared.error.WireError.{WireError}
 use Rattle.osm_wire.specs.declared.error.WireError.TheVariants.{Short, Overlong, Group, BadWire}
-use Rattle.osm_wire.specs.Fronts.{Front, IsGoodFront}
+use Rattle.osm_wire.specs.Pieces.{Pieces, IsGoodPieces}
 use Rattle.osm_wire.specs.Messages.{FieldValue, SpellsField, tag_fault}
 use Rattle.osm_wire.specs.Varints.{SpellsNumber, is_last_byte}
 
@@ -33,10 +33,10 @@ pub data RefusesField : List ℕ → WireError → Type 0 where
   no_payload : {tag : List ℕ} {n : ℕ} {error : WireError} (rest : List ℕ) →
       SpellsNumber tag n → tag_fault n ≡ None → RefusesPayload (n % 8) rest error → RefusesField (tag ++ rest) error
 
--- the good front of a message
-abbrev pub IsMessageFront : List ℕ → Front FieldValue → Type 0
-IsMessageFront message front = IsGoodFront SpellsField RefusesField message front
+-- the good fields of a message
+abbrev pub IsMessagePieces : List ℕ → Pieces FieldValue → Type 0
+IsMessagePieces message pieces = IsGoodPieces SpellsField RefusesField message pieces
 
--- the good front of a packed payload
-abbrev pub IsPackedFront : List ℕ → Front ℕ → Type 0
-IsPackedFront bytes front = IsGoodFront SpellsNumber RefusesNumber bytes front
+-- the good numbers of a packed payload
+abbrev pub IsPackedPieces : List ℕ → Pieces ℕ → Type 0
+IsPackedPieces bytes pieces = IsGoodPieces SpellsNumber RefusesNumber bytes pieces

@@ -30,6 +30,6 @@ abbrev pub number_ending : List ℕ → Option ℕ → Result (ℕ × ℕ) WireE
 number_ending bytes None = if nat_lt (length bytes) 10 then Err Short else Err Overlong
 number_ending bytes (Some last) = number_fitting (varint_value (take (last + 1) bytes)) (last + 1)
 
--- the number at the front of bytes, and how many bytes it takes
-unfoldable pub front_number : List ℕ → Result (ℕ × ℕ) WireError
-front_number bytes = number_ending bytes (position is_last_byte (take 10 bytes))
+-- the number at the beginning of bytes, and how many bytes it takes
+unfoldable pub leading_number : List ℕ → Result (ℕ × ℕ) WireError
+leading_number bytes = number_ending bytes (position is_last_byte (take 10 bytes))

@@ -5,7 +5,7 @@ use Rattle.std.specs.List.{flat_map}
 use Rattle.std.proofs.Common.{suc, zero}
 use Rattle.osm_wire.specs.Messages.{FieldValue, IsFieldNumber, Payload, Varint, Fixed64, Bytes, Fixed32, field_tag}
 
--- the spelling of a number without a byte too many, in at most so many bytes
+-- the spelling of a number without a byte too many, in at most the given number of bytes
 abbrev pub varint_within : ℕ → ℕ → List ℕ
 varint_within zero n = []
 varint_within (suc more) n =

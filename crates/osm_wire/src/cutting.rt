@@ -1,8 +1,8 @@
 //! Cuts a message into its fields, which are slices of it. A message is a sequence of fields, and a
 //! field is a tag, which is its number times 8 plus its wire type, and then a payload.
 ghost use Rattle.std.specs.Prelude.{◌≡◌, ◌≢◌, ◌<◌, ◌≤◌, ◌++◌, [], ℕ, List, take, IfErr, IfNone, IfOk, IfSome, length};
-ghost use Rattle.osm_wire.specs.Fronts.{in_front, refused_front};
-ghost use Rattle.osm_wire.specs.Messages.{SpellsField, front_field, front_payload, good_front};
+ghost use Rattle.osm_wire.specs.Pieces.{piece_before, refused_pieces};
+ghost use Rattle.osm_wire.specs.Messages.{SpellsField, good_front, leading_field, leading_payload};
 ghost use Rattle.osm_wire.specs.Seen.{field_cut, field_seen, payload_cut};
 ghost use Rattle.osm_wire.specs.declared.error.WireError.TheVariants.{Short};
 
@@ -47,11 +47,11 @@ impl<'a> Fields<'a> {
     #[inline(always)]
     pub fn next(&mut self) -> Option<Result<Field<'a>, WireError>>
         ensures field { IfSome result (λ r. IfOk r (λ f.
-            good_front self.old ≡ in_front (field_seen f) (good_front self.new))) }
+            good_front self.old ≡ piece_before (field_seen f) (good_front self.new))) }
         ensures range { IfSome result (λ r. IfOk r (λ f.
-            (front : List ℕ) × (self.old ≡ front ++ self.new) × SpellsField front (field_seen f))) }
+            (bytes : List ℕ) × (self.old ≡ bytes ++ self.new) × SpellsField bytes (field_seen f))) }
         ensures error { IfSome result (λ r. IfErr r (λ e.
-            (good_front self.old ≡ refused_front e) × (self.new ≡ []))) }
+            (good_front self.old ≡ refused_pieces e) × (self.new ≡ []))) }
         ensures end { IfNone result ((self.old ≡ []) × (self.new ≡ [])) }
         ensures shorter { IfSome result (λ _. length self.new < length self.old) }
     {
@@ -71,11 +71,11 @@ impl<'a> Fields<'a> {
     }
 }
 
-// The field at the front, and how many bytes it takes.
-#[tactic(auto, unfolding(crate::specs::Messages::front_field))]
+// The field at the beginning, and how many bytes it takes.
+#[tactic(auto, unfolding(crate::specs::Messages::leading_field))]
 #[inline(always)]
 fn first_field(bytes: &[u8]) -> Result<(Field<'_>, usize), WireError>
-    ensures value { field_cut result ≡ front_field bytes.now }
+    ensures value { field_cut result ≡ leading_field bytes.now }
     ensures within { IfOk result (λ p. (0 < p.1) × (p.1 ≤ length bytes.now)) }
 {
     let (tag, size) = first_varint(bytes)?;
@@ -91,10 +91,10 @@ fn first_field(bytes: &[u8]) -> Result<(Field<'_>, usize), WireError>
     Ok((Field { number, value }, size + more))
 }
 
-// The payload of a wire type at the front, and how many bytes it takes.
+// The payload of a wire type at the beginning, and how many bytes it takes.
 #[inline(always)]
 fn first_payload(kind: u64, bytes: &[u8]) -> Result<(Value<'_>, usize), WireError>
-    ensures value { payload_cut result ≡ front_payload kind bytes.now }
+    ensures value { payload_cut result ≡ leading_payload kind bytes.now }
     ensures within { IfOk result (λ p. p.1 ≤ length bytes.now) }
 {
     match kind {
@@ -122,7 +122,7 @@ fn first_payload(kind: u64, bytes: &[u8]) -> Result<(Value<'_>, usize), WireErro
     }
 }
 
-// So many bytes at the front.
+// The first `size` bytes.
 fn first_bytes(bytes: &[u8], size: usize) -> Result<&[u8], WireError>
     ensures ok { IfOk result (λ s. (s.now ≡ take size bytes.now) × (size ≤ length bytes.now)) }
     ensures err { IfErr result (λ e. (e ≡ Short) × (length bytes.now < size)) }

@@ -2,7 +2,7 @@
 //! high bit of each byte but the last is set.
 ghost use Rattle.std.specs.Prelude.{◌≡◌, ◌<◌, ◌≤◌, ◌+◌, ◌^◌, None, IfOk, drop, length, take};
 ghost use Rattle.std.specs.List.{position};
-ghost use Rattle.osm_wire.specs.Varints.{front_number, is_last_byte, varint_value};
+ghost use Rattle.osm_wire.specs.Varints.{leading_number, is_last_byte, varint_value};
 
 use crate::error::WireError;
 
@@ -12,16 +12,16 @@ use crate::error::WireError;
 #[inline(always)]
 pub fn varint(bytes: &[u8], at: usize) -> Result<(u64, usize), WireError>
     requires { at ≤ length bytes.now }
-    ensures value { result ≡ front_number (drop at bytes.now) }
+    ensures value { result ≡ leading_number (drop at bytes.now) }
     ensures within { IfOk result (λ p. (0 < p.1) × (at + p.1 ≤ length bytes.now)) }
 {
     first_varint(&bytes[at..])
 }
 
-/// The number of the varint at the front, and how many bytes it takes, as `varint` gives them.
+/// The number of the varint at the beginning, and how many bytes it takes, as `varint` gives them.
 #[inline(always)]
 pub(crate) fn first_varint(bytes: &[u8]) -> Result<(u64, usize), WireError>
-    ensures value { result ≡ front_number bytes.now }
+    ensures value { result ≡ leading_number bytes.now }
     ensures within { IfOk result (λ p. (0 < p.1) × (p.1 ≤ length bytes.now)) }
 {
     match bytes {
@@ -32,7 +32,7 @@ pub(crate) fn first_varint(bytes: &[u8]) -> Result<(u64, usize), WireError>
 
 // The same, byte by byte up to the ninth. Most varints of files have one byte and don't come here.
 fn long_varint(bytes: &[u8]) -> Result<(u64, usize), WireError>
-    ensures value { result ≡ front_number bytes.now }
+    ensures value { result ≡ leading_number bytes.now }
     ensures within { IfOk result (λ p. (0 < p.1) × (p.1 ≤ length bytes.now)) }
 {
     let near = bytes.len().min(9);
@@ -52,7 +52,7 @@ fn longest_varint(bytes: &[u8], number: u64) -> Result<(u64, usize), WireError>
     requires high { position is_last_byte (take 9 bytes.now) ≡ None }
     requires number { number ≡ varint_value (take 9 bytes.now) }
     requires fits { number < 2 ^ 63 }
-    ensures value { result ≡ front_number bytes.now }
+    ensures value { result ≡ leading_number bytes.now }
     ensures within { IfOk result (λ p. (0 < p.1) × (p.1 ≤ length bytes.now)) }
 {
     if bytes.len() < 10 {

@@ -12,4 +12,5 @@ pub returns-in-Ok : goal.returns-in-Ok
 returns-in-Ok c = sym (is_utf8-from_IsUtf8 c.args.bytes.now c.in-Ok.ensures.1)
 
 pub returns-in-Err : goal.returns-in-Err
-returns-in-Err c = false-from_not (is_utf8 c.args.bytes.now) (λ is. c.in-Err.ensures (IsUtf8-from_is_utf8 c.args.bytes.now is))
+returns-in-Err c = false-from_not (is_utf8 c.args.bytes.now)
+    (λ is. c.in-Err.ensures (IsUtf8-from_is_utf8 c.args.bytes.now is))

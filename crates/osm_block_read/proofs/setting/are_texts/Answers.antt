@@ -14,7 +14,8 @@ returns-then-not-is_text c =
     let at = c.loop-at.at in
     let span = c.span_at-span.result in
     let within : at < length spans = omega (arith, c.loop-at-test.true) in
-    let more = texts-more raw spans at span within (sym (get_or_from_slice_get spans at span span c.span_at-span.ensures)) in
+    let more =
+    texts-more raw spans at span within (sym (get_or_from_slice_get spans at span span c.span_at-span.ensures)) in
     let bad : is_utf8 (part_in raw span) ≡ false = grind (arith, c.is_text.ensures, c.if-not-is_text.true) in
     sym
     (sym c.loop-at.invariant ∙ more
@@ -27,6 +28,8 @@ loop-at-preserved c =
     let at = c.loop-at.at in
     let span = c.span_at-span.result in
     let within : at < length spans = omega (arith, c.loop-at-test.true) in
-    let more = texts-more raw spans at span within (sym (get_or_from_slice_get spans at span span c.span_at-span.ensures)) in
+    let more =
+    texts-more raw spans at span within (sym (get_or_from_slice_get spans at span span c.span_at-span.ensures)) in
     let good : is_utf8 (part_in raw span) ≡ true = grind (arith, c.is_text.ensures, c.if-not-is_text.false) in
-    ap (λ first. first && list_all is_utf8 (map (part_in raw) (drop (at + 1) spans))) (sym good) ∙ sym more ∙ c.loop-at.invariant
+    ap (λ first. first && list_all is_utf8 (map (part_in raw) (drop (at + 1) spans))) (sym good) ∙ sym more
+    ∙ c.loop-at.invariant

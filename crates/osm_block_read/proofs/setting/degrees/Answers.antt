@@ -29,7 +29,8 @@ overflow_add-result c =
       wide64 c.args.offset c.ranges.offset,
       wide32 c.args.granularity c.ranges.granularity,
       wide64 c.args.value c.ranges.value,
-      to_z-of_z w128 (c.args.granularity *ℤ c.args.value) (fits_signed_from_abs w128 (c.args.granularity *ℤ c.args.value) (omega (arith, p))),
+      to_z-of_z w128 (c.args.granularity *ℤ c.args.value) (fits_signed_from_abs w128
+          (c.args.granularity *ℤ c.args.value) (omega (arith, p))),
     )
     (total c.args.offset (c.args.granularity *ℤ c.args.value) c.ranges.offset p)
 
@@ -41,6 +42,7 @@ returns c =
       wide64 c.args.offset c.ranges.offset,
       wide32 c.args.granularity c.ranges.granularity,
       wide64 c.args.value c.ranges.value,
-      to_z-of_z w128 (c.args.granularity *ℤ c.args.value) (fits_signed_from_abs w128 (c.args.granularity *ℤ c.args.value) (omega (arith, p))),
+      to_z-of_z w128 (c.args.granularity *ℤ c.args.value) (fits_signed_from_abs w128
+          (c.args.granularity *ℤ c.args.value) (omega (arith, p))),
     )
     (to_z-of_z w128 (c.args.offset +ℤ (c.args.granularity *ℤ c.args.value)) sum)

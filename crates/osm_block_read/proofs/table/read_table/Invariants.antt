@@ -7,9 +7,9 @@ use Rattle.osm_block_read.proofs.table.read_table.Given as goal
 
 abbrev pub invariant-loop-span : goal.invariant-loop-span
 invariant-loop-span l = record {
-  rest : IsWellRest l.front l.fields;
-  within : All (IsSpanIn (length l.front)) l.spans.items;
-  entries : behind (map (part_in l.front) l.spans.items) (entries_left 1 l.fields) ≡ entries_left 1 l.initial.fields;
+  rest : IsWellRest l.begin l.fields;
+  within : All (IsSpanIn (length l.begin)) l.spans.items;
+  entries : behind (map (part_in l.begin) l.spans.items) (entries_left 1 l.fields) ≡ entries_left 1 l.initial.fields;
 }
 
 abbrev pub decreases-loop-span : goal.decreases-loop-span

@@ -1,4 +1,4 @@
-use Rattle.osm_block_write.proofs.RunsLemmas.{exists, only, runs_of-push, written_runs-front}
+use Rattle.osm_block_write.proofs.RunsLemmas.{exists, only, runs_of-push, written_runs-prefix}
 use Rattle.osm_block_write.proofs.laws.runs_are_one_list.Goals as goal
 
 pub returns-clause-exists : goal.returns-clause-exists
@@ -11,4 +11,4 @@ pub returns-clause-grows : goal.returns-clause-grows
 returns-clause-grows c = runs_of-push
 
 pub returns-clause-before : goal.returns-clause-before
-returns-clause-before c = written_runs-front
+returns-clause-before c = written_runs-prefix

@@ -1,6 +1,6 @@
 use Rattle.std.proofs.Common.{◌≡◌, length, take, sym, length-take, arith}
 use Rattle.std.specs.Prelude.{min}
-use Rattle.osm_wire.proofs.VarintLemmas.{GoOn-more, front_number-ends, number_more, position-none, take-GoOn}
+use Rattle.osm_wire.proofs.VarintLemmas.{GoOn-more, leading_number-ends, number_more, position-none, take-GoOn}
 use Rattle.osm_wire.proofs.varints.long_varint.Goals as goal
 
 pub overflow_add-number : goal.overflow_add-number
@@ -18,7 +18,7 @@ returns-then-byte-lt128-clause-value c =
     c.loop-size.invariant.value
     c.loop-size.invariant.small in
     sym
-    (front_number-ends c.args.bytes.now c.loop-size.size _ (omega arith) (omega arith) c.loop-size.invariant.more
+    (leading_number-ends c.args.bytes.now c.loop-size.size _ (omega arith) (omega arith) c.loop-size.invariant.more
     c.if-byte-lt128.true more.0 more.2)
 
 pub loop-size-preserved : goal.loop-size-preserved

@@ -31,7 +31,8 @@ returns-then-self-clause-bad c =
     let set : c.new-setting.result ≡ setting_read raw read =
     c.new-setting.ensures ∙ ap (λ spans. setting_of raw spans read.scale) c.as_slice.ensures.value in
     let fine : list_all is_utf8 (setting_read raw read).texts ≡ true =
-    ap (λ (s : SettingValue). list_all is_utf8 s.texts) (sym set) ∙ sym c.are_texts.ensures ∙ c.if-not-are_texts.false in
+    ap (λ (s : SettingValue). list_all is_utf8 s.texts) (sym set) ∙ sym c.are_texts.ensures
+    ∙ c.if-not-are_texts.false in
     said-uneven raw read c.in_ok-read.ensures.ok fine c.if-self.true
 
 pub returns-in-Some-clause-bad : goal.returns-in-Some-clause-bad
@@ -41,9 +42,11 @@ returns-in-Some-clause-bad c =
     let set : c.new-setting.result ≡ setting_read raw read =
     c.new-setting.ensures ∙ ap (λ spans. setting_of raw spans read.scale) c.as_slice.ensures.value in
     let fine : list_all is_utf8 (setting_read raw read).texts ≡ true =
-    ap (λ (s : SettingValue). list_all is_utf8 s.texts) (sym set) ∙ sym c.are_texts.ensures ∙ c.if-not-are_texts.false in
+    ap (λ (s : SettingValue). list_all is_utf8 s.texts) (sym set) ∙ sym c.are_texts.ensures
+    ∙ c.if-not-are_texts.false in
     let found : entries_fault (setting_read raw read) (entries_of read.rows) ≡ Some c.in-Some.cause =
-    ap (λ (s : SettingValue). entries_fault s (entries_of read.rows)) (sym set) ∙ sym c.find_fault.ensures ∙ c.in-Some.is in
+    ap (λ (s : SettingValue). entries_fault s (entries_of read.rows)) (sym set) ∙ sym c.find_fault.ensures
+    ∙ c.in-Some.is in
     said-fault raw read c.in-Some.cause c.in_ok-read.ensures.ok fine c.if-self.false found
 
 pub returns-in-None-clause-ok : goal.returns-in-None-clause-ok
@@ -53,7 +56,9 @@ returns-in-None-clause-ok c =
     let set : c.new-setting.result ≡ setting_read raw read =
     c.new-setting.ensures ∙ ap (λ spans. setting_of raw spans read.scale) c.as_slice.ensures.value in
     let fine : list_all is_utf8 (setting_read raw read).texts ≡ true =
-    ap (λ (s : SettingValue). list_all is_utf8 s.texts) (sym set) ∙ sym c.are_texts.ensures ∙ c.if-not-are_texts.false in
+    ap (λ (s : SettingValue). list_all is_utf8 s.texts) (sym set) ∙ sym c.are_texts.ensures
+    ∙ c.if-not-are_texts.false in
     let found : entries_fault (setting_read raw read) (entries_of read.rows) ≡ None =
-    ap (λ (s : SettingValue). entries_fault s (entries_of read.rows)) (sym set) ∙ sym c.find_fault.ensures ∙ c.in-None.is in
+    ap (λ (s : SettingValue). entries_fault s (entries_of read.rows)) (sym set) ∙ sym c.find_fault.ensures
+    ∙ c.in-None.is in
     said-checked raw read c.in_ok-read.ensures.ok fine c.if-self.false found

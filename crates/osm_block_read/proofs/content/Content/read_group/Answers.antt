@@ -10,6 +10,7 @@ returns-clause-ok c =
     on_ok_weaker c.read_entries-3.result
     (λ relations.
     group-read c.args.message.now c.in_ok-fields.fields c.args.self.now c.read_entries.new.self c.read_dense.new.self
-    c.read_entries-2.new.self c.read_entries-3.new.self fields c.in_ok-read_entries.ensures.ok c.in_ok-read_dense.ensures.ok
+    c.read_entries-2.new.self c.read_entries-3.new.self fields c.in_ok-read_entries.ensures.ok
+    c.in_ok-read_dense.ensures.ok
     c.in_ok-read_entries-2.ensures.ok relations)
     c.read_entries-3.ensures.ok

@@ -11,14 +11,16 @@ pub loop-message-preserved : goal.loop-message-preserved
 loop-message-preserved c =
     let given : c.next.result ≡ Some c.in_ok-message.field-0 = grind arith in
     let next =
-    next-given c.next.result c.in_ok-message.field-0 c.in-Some.message (λ s. s.now) c.loop-message.groups c.next.new.self given
+    next-given c.next.result c.in_ok-message.field-0 c.in-Some.message
+    (λ s. s.now) c.loop-message.groups c.next.new.self given
     c.in-Some.is c.next.ensures.some in
     let read = c.in_ok-read_group.ensures.ok in
     let before = entries_read c.loop-message.self in
     record {
       within = read.more.within;
       entries =
-          groups-more before (entries_read c.read_group.new.self) c.in-Some.message.now read.part (bytes_to_come c.next.new.self)
+          groups-more before (entries_read c.read_group.new.self) c.in-Some.message.now read.part
+          (bytes_to_come c.next.new.self)
           read.said_is read.more.entries
           ∙ ap (λ coming. with_groups before (coming >>= all_said group)) (sym next.entries)
           ∙ c.loop-message.invariant.entries;

@@ -4,4 +4,5 @@ use Rattle.osm_block_read.proofs.dense_codes.DenseCodes.info_at.Goals as goal
 
 pub returns : goal.returns
 returns c =
-    rw (dense-info c.args.self.now c.args.at c.args.sums.now c.requires.even c.requires.at c.requires.sums) (search rules)
+    rw (dense-info c.args.self.now c.args.at c.args.sums.now c.requires.even c.requires.at c.requires.sums)
+    (search rules)

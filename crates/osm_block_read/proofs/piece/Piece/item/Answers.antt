@@ -9,8 +9,10 @@ use Rattle.osm_block_read.proofs.piece.Piece.item.Goals as goal
 pub unreachable-requires : goal.unreachable-requires
 unreachable-requires c =
     let fine = fine-parts c.self.inside.setting (entry_seen c.self.inside.entry) c.self.invariant.fine in
-    let same : to_z w64 (of_z w64 c.self.inside.entry.info.timestamp) ≡ c.self.inside.entry.info.timestamp = search rules in
-    let late = subst (λ (t : ℤ). last_second < seconds_at c.self.inside.setting.date_granularity t) same c.in_default.ensures.none in
+    let same : to_z w64 (of_z w64 c.self.inside.entry.info.timestamp) ≡ c.self.inside.entry.info.timestamp =
+    search rules in
+    let late = subst (λ (t : ℤ). last_second < seconds_at c.self.inside.setting.date_granularity t) same
+    c.in_default.ensures.none in
     omega (arith, fine.time, late)
 
 pub make_body-requires-clause-fits : goal.make_body-requires-clause-fits
@@ -36,5 +38,6 @@ invariant_of-entity c =
     (subst (λ (n : ℕ). n < 2 ^ 31) is_version c.counted32.ensures.small)
     (subst (λ (n : ℕ). n < 2 ^ 63) is_changeset c.counted64.ensures.small)
     (subst (λ (n : ℕ). n < 2 ^ 31) is_uid c.counted32-2.ensures.small) in
-    entity-made s entry _ _ _ _ _ _ _ _ kept id is_version (c.in-Some.ensures.some ∙ ap (seconds_at s.date_granularity) timestamp)
+    entity-made s entry _ _ _ _ _ _ _ _ kept id is_version (c.in-Some.ensures.some
+    ∙ ap (seconds_at s.date_granularity) timestamp)
     is_changeset is_uid (c.in_ok-user.ensures ∙ ap (text_at s.texts) user) c.in_ok-tags.ensures c.in_ok-body.ensures

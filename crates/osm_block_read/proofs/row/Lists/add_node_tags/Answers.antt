@@ -18,7 +18,8 @@ pub returns-then-at-codes-clause-added : goal.returns-then-at-codes-clause-added
 returns-then-at-codes-clause-added c =
     let indexes = map int32 c.args.codes.now in
     let long : length indexes ≡ length c.args.codes.now = length-map c.args.codes.now int32 in
-    open-short c.args.self.now.tags.items c.loop-at.self.tags.items indexes c.args.from c.loop-at.at c.index_at-key.result
+    open-short c.args.self.now.tags.items c.loop-at.self.tags.items indexes c.args.from c.loop-at.at
+    c.index_at-key.result
     c.loop-at.invariant.open_node (omega (arith, long, c.if-at-codes.true)) c.index_at-key.ensures
     (node-goes_on c.index_at-key.result (λ is. c.if-key-eq0.false (ap (of_z w64) is)))
 
@@ -27,13 +28,18 @@ loop-at-preserved c =
     let indexes = map int32 c.args.codes.now in
     let long : length indexes ≡ length c.args.codes.now = length-map c.args.codes.now int32 in
     let got : c.push.new.self.items
-    ≡ c.loop-at.self.tags.items ++ record { key = c.index_at-key.result; value = c.index_at-value.result } ∷ [] = search rules in
+    ≡ c.loop-at.self.tags.items ++ record { key = c.index_at-key.result; value = c.index_at-value.result } ∷ [] =
+    search rules in
     let more =
-    open-more c.args.self.now.tags.items c.loop-at.self.tags.items indexes c.args.from c.loop-at.at c.index_at-key.result
-    c.index_at-value.result c.loop-at.invariant.open_node (omega (arith, long, c.loop-at-test.true, c.if-at-codes.false))
-    c.index_at-key.ensures c.index_at-value.ensures (node-goes_on c.index_at-key.result (λ is. c.if-key-eq0.false (ap (of_z w64) is))) in
+    open-more c.args.self.now.tags.items c.loop-at.self.tags.items indexes c.args.from c.loop-at.at
+    c.index_at-key.result
+    c.index_at-value.result c.loop-at.invariant.open_node (omega
+    (arith, long, c.loop-at-test.true, c.if-at-codes.false))
+    c.index_at-key.ensures c.index_at-value.ensures (node-goes_on c.index_at-key.result
+    (λ is. c.if-key-eq0.false (ap (of_z w64) is))) in
     record {
-      open_node = subst (λ items. IsNodeOpen c.args.self.now.tags.items items indexes c.args.from (c.loop-at.at + 2)) (sym got) more;
+      open_node = subst (λ items. IsNodeOpen c.args.self.now.tags.items items indexes c.args.from (c.loop-at.at + 2))
+          (sym got) more;
       refs = c.loop-at.invariant.refs;
       members = c.loop-at.invariant.members;
     }
@@ -42,5 +48,6 @@ pub returns-clause-added : goal.returns-clause-added
 returns-clause-added c =
     let indexes = map int32 c.args.codes.now in
     let long : length indexes ≡ length c.args.codes.now = length-map c.args.codes.now int32 in
-    open-past c.args.self.now.tags.items c.loop-at.self.tags.items indexes c.args.from c.loop-at.at c.loop-at.invariant.open_node
+    open-past c.args.self.now.tags.items c.loop-at.self.tags.items indexes c.args.from c.loop-at.at
+    c.loop-at.invariant.open_node
     (omega (arith, long, c.requires)) (omega (arith, long, c.loop-at-test.false))

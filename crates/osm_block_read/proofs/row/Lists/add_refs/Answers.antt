@@ -7,7 +7,8 @@ loop-at-preserved c =
     let within : c.loop-at.at < length c.args.codes.now = omega (arith, c.loop-at-test.true) in
     let got : c.push.new.self.items ≡ c.loop-at.self.refs.items ++ c.next_sum-last.result ∷ [] = search rules in
     record {
-      added = ids-more _ _ _ _ _ _ c.args.codes.now c.loop-at.at _ within got c.next_sum-last.ensures c.loop-at.invariant.added
+      added = ids-more _ _ _ _ _ _ c.args.codes.now c.loop-at.at _ within got c.next_sum-last.ensures
+          c.loop-at.invariant.added
           (search rules) (search rules);
       tags = c.loop-at.invariant.tags;
       members = c.loop-at.invariant.members;

@@ -26,10 +26,12 @@ returns-then-not-fits c =
     let fits : c.in_ok-fits.fits ≡ false = search rules in
     let added =
     subst
-    (λ (b : Bool). AreTagsAdded old.lists.tags.items c.add_dense_tags.new.self.tags.items c.add_dense_tags.new.spans.items
+    (λ (b : Bool). AreTagsAdded old.lists.tags.items c.add_dense_tags.new.self.tags.items
+    c.add_dense_tags.new.spans.items
     (tags_of_all c.len-count.result (map int32 c.as_slice.result.now)) b) fits c.in_ok-fits.ensures.added in
     let grown =
-    tags-grown old.lists c.add_dense_tags.new.self added.0 c.add_dense_tags.ensures.refs c.add_dense_tags.ensures.members in (
+    tags-grown old.lists c.add_dense_tags.new.self added.0 c.add_dense_tags.ensures.refs
+    c.add_dense_tags.ensures.members in (
       rows-grown old.lists c.add_dense_tags.new.self old.rows.items grown c.requires,
       dense-bad_tags codes even
           (ap (λ n. tags_of_all n (map int32 codes.keys_vals.items)) (sym count)
@@ -67,11 +69,15 @@ returns c =
     ap (λ (n : ℕ). tags_of_all n (map int32 c.as_slice.result.now)) count
     ∙ ap (λ (list : List ℕ). tags_of_all (length codes.ids.items) (map int32 list)) c.as_slice.ensures.value in
     let tags =
-    subst (λ (s : Option (List (List EntryTag))). AreTagsAdded old.lists.tags.items lists.tags.items spans s true) said added in
-    let grown = tags-grown old.lists lists added.2.grown c.add_dense_tags.ensures.refs c.add_dense_tags.ensures.members in
+    subst (λ (s : Option (List (List EntryTag))). AreTagsAdded old.lists.tags.items lists.tags.items spans s true) said
+    added in
+    let grown = tags-grown old.lists lists added.2.grown c.add_dense_tags.ensures.refs c.add_dense_tags.ensures.members
+    in
     let nodes =
     subst
     (λ (s : List Span). IsAdded (record { rows = old.rows; lists = lists }) c.add_nodes.new.self
-    (map (dense_entry_at (dense_of codes) (map (part_in lists.tags.items) s)) (range_with_len 0 (length codes.ids.items))))
+    (map (dense_entry_at (dense_of codes) (map (part_in lists.tags.items) s))
+    (range_with_len 0 (length codes.ids.items))))
     c.as_slice-2.ensures.value c.in_ok-add_nodes.ensures in
-    dense-added old (record { rows = old.rows; lists = lists }) c.add_nodes.new.self codes spans c.requires even refl grown tags nodes
+    dense-added old (record { rows = old.rows; lists = lists }) c.add_nodes.new.self codes spans c.requires even refl
+    grown tags nodes

@@ -18,8 +18,11 @@ loop-at-preserved c =
     let within : c.loop-at.at < length c.args.spans.now = omega (arith, c.loop-at-test.true) in
     let got : c.push.new.self.items ≡ c.loop-at.self.rows.items ++ row ∷ [] = search rules in
     let more =
-    node-added c.args.self.now c.loop-at.self (record c.loop-at.self { rows = c.push.new.self }) c.args.codes.now c.args.spans.now
-    c.loop-at.at c.add.new.self c.info_at-info.result c.span_at.result row c.requires.even c.requires.count c.requires.spans within
-    c.loop-at.invariant.within c.loop-at.invariant.entries c.loop-at.invariant.lists c.add.ensures c.info_at-info.ensures
+    node-added c.args.self.now c.loop-at.self (record c.loop-at.self { rows = c.push.new.self }) c.args.codes.now
+    c.args.spans.now
+    c.loop-at.at c.add.new.self c.info_at-info.result c.span_at.result row c.requires.even c.requires.count
+    c.requires.spans within
+    c.loop-at.invariant.within c.loop-at.invariant.entries c.loop-at.invariant.lists c.add.ensures
+    c.info_at-info.ensures
     c.span_at.ensures c.dense_row.ensures got refl in
     record { within = more.0; entries = more.1; lists = c.loop-at.invariant.lists; sums = c.add.ensures }

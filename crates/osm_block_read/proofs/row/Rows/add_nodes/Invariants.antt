@@ -10,7 +10,8 @@ abbrev pub invariant-loop-at : goal.invariant-loop-at
 invariant-loop-at l = record {
   within : AreRowsIn l.self;
   entries : entries_of l.self ≡ entries_of l.initial.self
-      ++ map (dense_entry_at (dense_of l.codes) (map (part_in l.initial.self.lists.tags.items) l.spans)) (range_with_len 0 l.at);
+      ++ map (dense_entry_at (dense_of l.codes) (map (part_in l.initial.self.lists.tags.items) l.spans))
+      (range_with_len 0 l.at);
   lists : l.self.lists ≡ l.initial.self.lists;
   sums : AreSums l.codes l.at l.sums;
 }

@@ -26,7 +26,8 @@ returns-clause-ok c =
     subst (λ (v : List ℕ). IsPartAdded old.lists.tags.items lists.tags.items (entry_tags keys v) c.in_ok-tags.tags)
     c.as_slice-4.ensures.value
     (subst
-    (λ (k : List ℕ). IsPartAdded old.lists.tags.items lists.tags.items (entry_tags k c.as_slice-4.result.now) c.in_ok-tags.tags)
+    (λ (k : List ℕ). IsPartAdded old.lists.tags.items lists.tags.items
+    (entry_tags k c.as_slice-4.result.now) c.in_ok-tags.tags)
     c.as_slice-3.ensures.value c.in_ok-tags.ensures.added) in
     let even =
     c.is_even-even.ensures
@@ -34,5 +35,6 @@ returns-clause-ok c =
     ∙ ap (λ (v : List ℕ). c.args.even && (length keys == length v)) c.as_slice-2.ensures.value in
     entity-added old (record { rows = rows; lists = lists }) c.args.id c.args.body c.args.even c.is_even-even.result
     c.args.fields.now keys values c.in_ok-info.info c.in_ok-tags.tags c.requires.rows c.requires.body
-    c.in_ok-read_codes.ensures.ok c.in_ok-read_codes-2.ensures.ok known added c.in_ok-tags.ensures.refs c.in_ok-tags.ensures.members
+    c.in_ok-read_codes.ensures.ok c.in_ok-read_codes-2.ensures.ok known added c.in_ok-tags.ensures.refs
+    c.in_ok-tags.ensures.members
     even got

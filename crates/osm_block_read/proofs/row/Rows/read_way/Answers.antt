@@ -17,11 +17,13 @@ returns-clause-ok c =
     let shown : to_z w64 (of_z w64 c.int64.result) ≡ int64 c.in_ok-id.id = bits ∙ c.int64.ensures in
     let refs =
     subst
-    (λ (k : List ℕ). IsPartAdded old.lists.refs.items lists.refs.items (summed w64 (map unzigzagged k)) c.in_ok-refs.refs)
+    (λ (k : List ℕ). IsPartAdded old.lists.refs.items lists.refs.items
+    (summed w64 (map unzigzagged k)) c.in_ok-refs.refs)
     c.as_slice.ensures.value c.in_ok-refs.ensures.added in
     on_ok_weaker c.add_with.result
     (λ added.
-    way-added old (record old { lists = lists }) c.add_with.new.self c.args.message.now c.in_ok-fields.fields c.in_ok-id.id
+    way-added old (record old { lists = lists }) c.add_with.new.self c.args.message.now c.in_ok-fields.fields
+    c.in_ok-id.id
     (to_z w64 (of_z w64 c.int64.result)) c.read_codes.new.codes.items c.in_ok-refs.refs c.requires fields id shown
     c.in_ok-read_codes.ensures.ok refs c.in_ok-refs.ensures.tags c.in_ok-refs.ensures.members refl added)
     c.add_with.ensures.ok

@@ -5,4 +5,5 @@ use Rattle.osm_block_read.specs.Entries.{entry_member}
 use Rattle.osm_block_read.proofs.setting.Setting.weight_of_members.Given as goal
 
 abbrev pub invariant-loop-member : goal.invariant-loop-member
-invariant-loop-member l = l.total ≡ min (sum_by member_weight (map (entry_member l.self) (take l.member-index l.members))) (2 ^ 64 - 1)
+invariant-loop-member l = l.total ≡ min (sum_by member_weight
+    (map (entry_member l.self) (take l.member-index l.members))) (2 ^ 64 - 1)

@@ -1,4 +1,4 @@
--- Lemmas on the frame at the front of bytes.
+-- Lemmas on the frame at the beginning of bytes.
 use Rattle.std.proofs.Common.{◌≡◌, ℕ, ◌+◌, ◌-◌, ◌<◌, ◌≤◌, List, [], ◌∷◌, ◌++◌, length, take, drop, refl, sym, ap, ◌∙◌, subst, arith, inl, inr}
 use Rattle.std.specs.Prelude.{slice_index, ◌≢◌, Option, Some, None, Ok, Err, IfSome, nat_le, nat_lt, ℤ, pos, negsuc}
 use Rattle.std.specs.Int.{w32, from_be_bytes}
@@ -11,7 +11,7 @@ use Rattle.osm_blob.specs.declared.messages.BlobHeader.{BlobHeader}
 use Rattle.osm_blob.specs.declared.messages.What.{What}
 use Rattle.osm_blob.specs.declared.messages.What.TheVariants.{Header, Block, Other}
 use Rattle.osm_blob.proofs.ContentLemmas.{blob_said-short}
-use Rattle.osm_blob.specs.Front.{header_limit, FrontFrame, Short, Whole, Faulty, needing, frame_by_blob, frame_by_what, frame_by_size, frame_by_header, frame_by_length, front_frame}
+use Rattle.osm_blob.specs.Leading.{header_limit, LeadingFrame, Short, Whole, Faulty, needing, frame_by_blob, frame_by_what, frame_by_size, frame_by_header, frame_by_length, leading_frame}
 use Rattle.osm_blob.specs.Messages.{header_said, blob_said, blob_size, largest_blob}
 
 -- the first four bytes
@@ -23,23 +23,23 @@ four (a ∷ b ∷ []) some = absurd (omega arith)
 four (a ∷ b ∷ c ∷ []) some = absurd (omega arith)
 four (a ∷ b ∷ c ∷ d ∷ more) some = refl
 
--- what is told by so many bytes that are there
-pub needing-there : (count : ℕ) (bytes : List ℕ) (front : FrontFrame) → count ≤ length bytes →
-    needing count bytes front ≡ front
-needing-there count bytes front there = rw (le-ltb (length bytes) count there) refl
+-- what is told by a number of bytes that are there
+pub needing-there : (count : ℕ) (bytes : List ℕ) (leading : LeadingFrame) → count ≤ length bytes →
+    needing count bytes leading ≡ leading
+needing-there count bytes leading there = rw (le-ltb (length bytes) count there) refl
 
--- what is told by so many bytes that aren't
-pub needing-short : (count : ℕ) (bytes : List ℕ) (front : FrontFrame) → length bytes < count →
-    needing count bytes front ≡ Short
-needing-short count bytes front short = rw (lt-ltb (length bytes) count short) refl
+-- what is told by a number of bytes that aren't
+pub needing-short : (count : ℕ) (bytes : List ℕ) (leading : LeadingFrame) → length bytes < count →
+    needing count bytes leading ≡ Short
+needing-short count bytes leading short = rw (lt-ltb (length bytes) count short) refl
 
 -- a length that is told, and what it tells
-pub front_frame-length : (bytes : List ℕ) (count : ℕ) → 4 ≤ length bytes →
+pub leading_frame-length : (bytes : List ℕ) (count : ℕ) → 4 ≤ length bytes →
     count ≡ from_be_bytes w32
     (slice_index bytes 0 ∷ slice_index bytes 1 ∷ slice_index bytes 2 ∷ slice_index bytes 3 ∷ []) →
-    front_frame bytes ≡ frame_by_length bytes count
-unfolding front_frame
-front_frame-length bytes count there is =
+    leading_frame bytes ≡ frame_by_length bytes count
+unfolding leading_frame
+leading_frame-length bytes count there is =
     needing-there 4 bytes (frame_by_length bytes (from_be_bytes w32 (take 4 bytes))) there
     ∙ ap (frame_by_length bytes) (ap (from_be_bytes w32) (sym (four bytes there)) ∙ sym is)
 
@@ -73,12 +73,12 @@ frame_by_length-there bytes count said within there is =
     (frame_by_header bytes (4 + count) (header_said (take count (drop 4 bytes)))) there
     ∙ ap (frame_by_header bytes (4 + count)) (ap (λ n. header_said (take n (drop 4 bytes))) (sym size) ∙ sym is)
 
--- a front that is told stays what it is
-abbrev Stays : FrontFrame → FrontFrame → Type 0
+-- a leading frame that is told stays what it is
+abbrev Stays : LeadingFrame → LeadingFrame → Type 0
 Stays first later = first ≢ Short → later ≡ first
 
--- what is told by so many bytes stays when more come
-needing-stays : (count : ℕ) (bytes more : List ℕ) (first later : FrontFrame) →
+-- what is told by a number of bytes stays when more come
+needing-stays : (count : ℕ) (bytes more : List ℕ) (first later : LeadingFrame) →
     (count ≤ length bytes → Stays first later) →
     Stays (needing count bytes first) (needing count (bytes ++ more) later)
 needing-stays count bytes more first later stays =
@@ -124,26 +124,26 @@ frame_by_length-stays bytes more count some =
       | inr long ↦ λ _. frame_by_length-long (bytes ++ more) count long ∙ sym (frame_by_length-long bytes count long)
     ]
 
--- the frame at the front of bytes stays what it is when more come
-pub front_frame-stays : (bytes more : List ℕ) → front_frame bytes ≢ Short →
-    front_frame (bytes ++ more) ≡ front_frame bytes
-unfolding front_frame
-front_frame-stays bytes more =
+-- the frame at the beginning of bytes stays what it is when more come
+pub leading_frame-stays : (bytes more : List ℕ) → leading_frame bytes ≢ Short →
+    leading_frame (bytes ++ more) ≡ leading_frame bytes
+unfolding leading_frame
+leading_frame-stays bytes more =
     needing-stays 4 bytes more (frame_by_length bytes (from_be_bytes w32 (take 4 bytes)))
     (frame_by_length (bytes ++ more) (from_be_bytes w32 (take 4 (bytes ++ more))))
     (λ there. rw (take-append-le 4 bytes more there)
     (frame_by_length-stays bytes more (from_be_bytes w32 (take 4 bytes)) there))
 
 -- a whole frame has some bytes, no more than there are, and no fewer than its raw content
-abbrev IsSized : ℕ → FrontFrame → Type 0
+abbrev IsSized : ℕ → LeadingFrame → Type 0
 IsSized count Short = Unit {0}
 IsSized count (Whole what raw size) = (4 ≤ size) × (size ≤ count) × (length raw ≤ size)
 IsSized count (Faulty cause blamed) = Unit {0}
 
-needing-sized : (count : ℕ) (bytes : List ℕ) (front : FrontFrame) →
-    (count ≤ length bytes → IsSized (length bytes) front) → IsSized (length bytes) (needing count bytes front)
-needing-sized count bytes front sized =
-    cond_both (nat_lt (length bytes) count) Short front (λ f. IsSized (length bytes) f) (λ _. tt)
+needing-sized : (count : ℕ) (bytes : List ℕ) (leading : LeadingFrame) →
+    (count ≤ length bytes → IsSized (length bytes) leading) → IsSized (length bytes) (needing count bytes leading)
+needing-sized count bytes leading sized =
+    cond_both (nat_lt (length bytes) count) Short leading (λ f. IsSized (length bytes) f) (λ _. tt)
     (λ none. sized (ltb-false (length bytes) count none))
 
 frame_by_blob-sized : (count : ℕ) (what : What) (size : ℕ) (said : Result (List ℕ) Cause) → 4 ≤ size →
@@ -185,33 +185,33 @@ frame_by_length-sized bytes count =
     (λ _. frame_by_header-sized bytes (4 + count) (header_said (take count (drop 4 bytes))) (omega arith)))
     (λ _. tt)
 
--- the front of bytes has no more than they are
-front_frame-sized : (bytes : List ℕ) → IsSized (length bytes) (front_frame bytes)
-unfolding front_frame
-front_frame-sized bytes =
+-- the leading frame of bytes has no more than they are
+leading_frame-sized : (bytes : List ℕ) → IsSized (length bytes) (leading_frame bytes)
+unfolding leading_frame
+leading_frame-sized bytes =
     needing-sized 4 bytes (frame_by_length bytes (from_be_bytes w32 (take 4 bytes)))
     (λ _. frame_by_length-sized bytes (from_be_bytes w32 (take 4 bytes)))
 
 -- the size of a whole frame
-pub front_frame-size : (bytes : List ℕ) (what : What) (raw : List ℕ) (size : ℕ) →
-    front_frame bytes ≡ Whole what raw size → (4 ≤ size) × (size ≤ length bytes) × (length raw ≤ size)
-front_frame-size bytes what raw size is = subst (IsSized (length bytes)) is (front_frame-sized bytes)
+pub leading_frame-size : (bytes : List ℕ) (what : What) (raw : List ℕ) (size : ℕ) →
+    leading_frame bytes ≡ Whole what raw size → (4 ≤ size) × (size ≤ length bytes) × (length raw ≤ size)
+leading_frame-size bytes what raw size is = subst (IsSized (length bytes)) is (leading_frame-sized bytes)
 
 -- no bytes are no frame
-pub front_frame-nil : front_frame [] ≡ Short
-unfolding front_frame
-front_frame-nil = refl
+pub leading_frame-nil : leading_frame [] ≡ Short
+unfolding leading_frame
+leading_frame-nil = refl
 
 -- bytes that are too few to tell are fewer than a length
-abbrev IsFew : ℕ → ℕ → FrontFrame → Type 0
+abbrev IsFew : ℕ → ℕ → LeadingFrame → Type 0
 IsFew count limit Short = count < limit
 IsFew count limit (Whole what raw size) = Unit {0}
 IsFew count limit (Faulty cause blamed) = Unit {0}
 
-needing-few : (count limit : ℕ) (bytes : List ℕ) (front : FrontFrame) → count ≤ limit →
-    IsFew (length bytes) limit front → IsFew (length bytes) limit (needing count bytes front)
-needing-few count limit bytes front within few =
-    cond_both (nat_lt (length bytes) count) Short front (λ f. IsFew (length bytes) limit f)
+needing-few : (count limit : ℕ) (bytes : List ℕ) (leading : LeadingFrame) → count ≤ limit →
+    IsFew (length bytes) limit leading → IsFew (length bytes) limit (needing count bytes leading)
+needing-few count limit bytes leading within few =
+    cond_both (nat_lt (length bytes) count) Short leading (λ f. IsFew (length bytes) limit f)
     (λ is. let less : length bytes < count = ltb-true (length bytes) count is in omega arith) (λ _. few)
 
 frame_by_blob-few : (count limit : ℕ) (what : What) (size : ℕ) (said : Result (List ℕ) Cause) →
@@ -257,9 +257,9 @@ frame_by_length-few bytes count =
     (λ _. tt)
 
 -- bytes that are too few to tell are fewer than a length, a blob header and a blob can have together
-pub front_frame-few : (bytes : List ℕ) → front_frame bytes ≡ Short → length bytes < 33620995
-unfolding front_frame
-front_frame-few bytes is =
+pub leading_frame-few : (bytes : List ℕ) → leading_frame bytes ≡ Short → length bytes < 33620995
+unfolding leading_frame
+leading_frame-few bytes is =
     subst (IsFew (length bytes) 33620995) is
     (needing-few 4 33620995 bytes (frame_by_length bytes (from_be_bytes w32 (take 4 bytes))) (omega arith)
     (frame_by_length-few bytes (from_be_bytes w32 (take 4 bytes))))

@@ -2,7 +2,7 @@ use Rattle.std.proofs.Common.{◌≡◌, ◌+◌, ◌-◌, length, take, drop, a
 use lib.Seq.{paste}
 use Rattle.std.proofs.lemmas.List.{with_items_is, places}
 use Rattle.std.proofs.lemmas.List.Edits.{take-paste}
-use Rattle.osm_blob.proofs.reading.remove_front.Goals as goal
+use Rattle.osm_blob.proofs.reading.remove_first.Goals as goal
 
 pub returns-clause-items : goal.returns-clause-items
 returns-clause-items c =

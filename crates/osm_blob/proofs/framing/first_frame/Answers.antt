@@ -1,10 +1,10 @@
 use Rattle.std.proofs.Common.{◌∙◌, sym}
-use Rattle.osm_blob.specs.Front.{front_frame}
-use Rattle.osm_blob.proofs.FrontLemmas.{needing-short, front_frame-length, frame_by_length-long, frame_by_length-short, frame_by_length-there}
-use Rattle.osm_blob.proofs.front.first_frame.Goals as goal
+use Rattle.osm_blob.specs.Leading.{leading_frame}
+use Rattle.osm_blob.proofs.LeadingLemmas.{needing-short, leading_frame-length, frame_by_length-long, frame_by_length-short, frame_by_length-there}
+use Rattle.osm_blob.proofs.framing.first_frame.Goals as goal
 
 pub returns-then-bytes-lt4 : goal.returns-then-bytes-lt4
-unfolding front_frame
+unfolding leading_frame
 returns-then-bytes-lt4 c = sym (needing-short 4 c.args.bytes.now _ c.if-bytes-lt4.true)
 
 pub returns-then-length-ge-HEADER_LIMIT : goal.returns-then-length-ge-HEADER_LIMIT
@@ -13,7 +13,7 @@ returns-then-length-ge-HEADER_LIMIT c =
     let count = c.from_be_bytes-length.result in
     c.faulty.ensures
     ∙ sym
-    (front_frame-length bytes count c.if-bytes-lt4.false c.from_be_bytes-length.ensures
+    (leading_frame-length bytes count c.if-bytes-lt4.false c.from_be_bytes-length.ensures
     ∙ frame_by_length-long bytes count c.if-length-ge-HEADER_LIMIT.true)
 
 pub returns-then-bytes-start : goal.returns-then-bytes-start
@@ -21,7 +21,7 @@ returns-then-bytes-start c =
     let bytes = c.args.bytes.now in
     let count = c.from_be_bytes-length.result in
     sym
-    (front_frame-length bytes count c.if-bytes-lt4.false c.from_be_bytes-length.ensures
+    (leading_frame-length bytes count c.if-bytes-lt4.false c.from_be_bytes-length.ensures
     ∙ frame_by_length-short bytes count c.if-length-ge-HEADER_LIMIT.false c.if-bytes-start.true)
 
 pub returns-in-Some : goal.returns-in-Some
@@ -30,7 +30,7 @@ returns-in-Some c =
     let count = c.from_be_bytes-length.result in
     c.framed.ensures
     ∙ sym
-    (front_frame-length bytes count c.if-bytes-lt4.false c.from_be_bytes-length.ensures
+    (leading_frame-length bytes count c.if-bytes-lt4.false c.from_be_bytes-length.ensures
     ∙ frame_by_length-there bytes count _ c.if-length-ge-HEADER_LIMIT.false c.if-bytes-start.false
     (sym c.in-Some.is ∙ c.read_header.ensures))
 
@@ -40,6 +40,6 @@ returns-in-None c =
     let count = c.from_be_bytes-length.result in
     c.faulty-in-None.ensures
     ∙ sym
-    (front_frame-length bytes count c.if-bytes-lt4.false c.from_be_bytes-length.ensures
+    (leading_frame-length bytes count c.if-bytes-lt4.false c.from_be_bytes-length.ensures
     ∙ frame_by_length-there bytes count _ c.if-length-ge-HEADER_LIMIT.false c.if-bytes-start.false
     (sym c.in-None.is ∙ c.read_header.ensures))

@@ -1,11 +1,11 @@
-//! The frame at the front of some bytes, after the OSM PBF page.
+//! The frame at the beginning of some bytes, after the OSM PBF page.
 //!
 //! A frame is four bytes, the big-endian length of its blob header; the blob header, which says
 //! what its blob holds and how many bytes it has; and the blob. Each fault is told as soon as the
 //! bytes that show it are there, and a length is believed only as far as its bytes came.
 ghost use Rattle.std.specs.Prelude.{◌≡◌, ◌≤◌, Some, length};
-ghost use Rattle.osm_blob.specs.Front.{frame_by_header, frame_by_what, front_frame};
-ghost use Rattle.osm_blob.specs.FrontSeen.{first_frame_seen};
+ghost use Rattle.osm_blob.specs.Leading.{frame_by_header, frame_by_what, leading_frame};
+ghost use Rattle.osm_blob.specs.LeadingSeen.{first_frame_seen};
 ghost use Rattle.osm_blob.specs.Messages.{blob_size};
 
 use crate::messages::{BlobHeader, What, read_blob, read_header};
@@ -36,9 +36,9 @@ pub(crate) enum FirstFrame<'a> {
     },
 }
 
-/// The frame at the front of some bytes.
+/// The frame at the beginning of some bytes.
 pub(crate) fn first_frame(bytes: &[u8]) -> FirstFrame<'_>
-    ensures { first_frame_seen result ≡ front_frame bytes.now }
+    ensures { first_frame_seen result ≡ leading_frame bytes.now }
 {
     if bytes.len() < 4 {
         return FirstFrame::Short;
