@@ -23,13 +23,13 @@ use Rattle.osm_block_write.specs.Block.{block_bytes, header_bytes, run_bytes}
 use Rattle.osm_block_write.specs.Making.{Holds, MakerValue}
 use Rattle.osm_block_write.specs.Runs.{have_one_kind, greatest_run, open_run, takes, total_weight}
 use Rattle.osm_block_write.specs.declared.options.PbfOptions.{PbfOptions}
-use Rattle.osm_pbf.specs.WrittenFile.{TookFront, header_frame, run_frame, run_frames, runs_of_items}
+use Rattle.osm_pbf.specs.WrittenFile.{TookPrefix, header_frame, run_frame, run_frames, runs_of_items}
 use Rattle.osm_pbf.specs.Writer.{HoldsOpen, IsWriter, WriterValue, Wrote}
 use Rattle.osm_block_write.specs.Columns.{bytes_field}
 use Rattle.osm_wire.specs.Written.{written_message}
 use Rattle.osm_pbf.proofs.BlockSizeLemmas.{block-short}
 use Rattle.osm_pbf.proofs.SizeLemmas.{bytes-size, message-next}
-use Rattle.osm_pbf.proofs.WritingLemmas.{front-closed, front-done, front-unopened, text-none, wrote-closed}
+use Rattle.osm_pbf.proofs.WritingLemmas.{prefix-closed, prefix-done, prefix-unopened, text-none, wrote-closed}
 
 -- no bytes behind some
 pub append_known-nil : (o : Option (List ℕ)) → append_known o [] ≡ o
@@ -108,11 +108,11 @@ pub end-some : {T E : Type 0} (r : Result T E) (w : WriterValue) (end : End) (be
     ((run : List EntityValue) → Holds w.maker run →
     OnErr r (TakesPrefix (run_frames w.options (open_run run)) before now)) →
     OnErr r ((first : Option (List ℕ)) (items : List ItemValue) → Wrote first before w items →
-    TookFront w.options first now (record { items = items; end = end }))
+    TookPrefix w.options first now (record { items = items; end = end }))
 end-some (Ok x) w end before now is put = tt
 end-some (Err e) w end before now is put = λ first items wrote.
-    subst (λ at. TookFront w.options first now (record { items = items; end = at })) (sym is)
-    (front-done w first before now items (put (runs_of_items w.options items).opened wrote.holds) wrote)
+    subst (λ at. TookPrefix w.options first now (record { items = items; end = at })) (sym is)
+    (prefix-done w first before now items (put (runs_of_items w.options items).opened wrote.holds) wrote)
 
 -- a kind is known by its rank
 rank-kind : (a b : Kind) → kind_rank a ≡ kind_rank b → a ≡ b
@@ -142,32 +142,32 @@ other_kind m limit (x ∷ run) e h some other =
     absurd (other (sym same ∙ h.alike.0)))
     (λ not. not)
 
--- a writer that put a front of its open run before an item
-pub closing-front : (w mid : WriterValue) (item : ItemValue) (before now : Option (List ℕ)) → mid ≡ w →
+-- a writer that put a prefix of its open run before an item
+pub closing-prefix : (w mid : WriterValue) (item : ItemValue) (before now : Option (List ℕ)) → mid ≡ w →
     weight_of item.entity ≤ greatest_weight →
     ((run : List EntityValue) → Holds w.maker run → run ≢ [] → takes w.options.batchlimit run item.entity ≡ false) →
     ((run : List EntityValue) → Holds mid.maker run →
     TakesPrefix (run_frames mid.options (open_run run)) before now) → (first : Option (List ℕ))
     (items : List ItemValue) → Wrote first before w items →
-    TookFront w.options first now (record { items = items ++ item ∷ []; end = Broken })
-closing-front w mid item before now same light refused put first items wrote =
+    TookPrefix w.options first now (record { items = items ++ item ∷ []; end = Broken })
+closing-prefix w mid item before now same light refused put first items wrote =
     let run = (runs_of_items w.options items).opened in
-    front-closed w first before now items item light (refused run wrote.holds)
+    prefix-closed w first before now items item light (refused run wrote.holds)
     (subst (λ m. TakesPrefix (run_frames m.options (open_run run)) before now) same
     (put run (subst (λ m. Holds m.maker run) (sym same) wrote.holds)))
     wrote
 
 -- a writer that put its open run whole before an item that it didn't take
-pub closed-front : (w mid : WriterValue) (item : ItemValue) (before now : Option (List ℕ)) → mid ≡ w →
+pub closed-prefix : (w mid : WriterValue) (item : ItemValue) (before now : Option (List ℕ)) → mid ≡ w →
     weight_of item.entity ≤ greatest_weight →
     ((run : List EntityValue) → Holds w.maker run → run ≢ [] → takes w.options.batchlimit run item.entity ≡ false) →
     ((run : List EntityValue) → Holds mid.maker run →
     now ≡ append_known before (run_frames mid.options (open_run run))) → (first : Option (List ℕ))
     (items : List ItemValue) → Wrote first before w items →
-    TookFront w.options first now (record { items = items ++ item ∷ []; end = Broken })
-closed-front w mid item before now same light refused put first items wrote =
+    TookPrefix w.options first now (record { items = items ++ item ∷ []; end = Broken })
+closed-prefix w mid item before now same light refused put first items wrote =
     let run = (runs_of_items w.options items).opened in
-    front-unopened w first before now items item light (refused run wrote.holds)
+    prefix-unopened w first before now items item light (refused run wrote.holds)
     (subst (λ m. now ≡ append_known before (run_frames m.options (open_run run))) same
     (put run (subst (λ m. Holds m.maker run) (sym same) wrote.holds)))
     wrote

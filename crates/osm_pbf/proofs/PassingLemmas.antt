@@ -9,11 +9,11 @@ use Rattle.osm_entity.specs.declared.sequence.NoMemory.{NoMemory}
 use Rattle.osm_entity.specs.declared.verdict.Cause.{Cause}
 use Rattle.osm_entity.specs.declared.verdict.Spot.TheVariants.{Blob}
 use Rattle.osm_blob.specs.Blobs.{BlobsValue, RefusedFrame, TookFrame, blobs_passed}
-use Rattle.osm_blob.specs.Front.{Short, Whole as IsWhole, Faulty, front_frame}
+use Rattle.osm_blob.specs.Leading.{Short, Whole as IsWhole, Faulty, leading_frame}
 use Rattle.osm_blob.specs.Frames.{next_start}
 use Rattle.osm_blob.specs.declared.messages.What.{What}
 use Rattle.osm_blob.specs.declared.reading.Frame.{Frame}
-use Rattle.osm_blob.proofs.FrontLemmas.{front_frame-size, front_frame-stays}
+use Rattle.osm_blob.proofs.LeadingLemmas.{leading_frame-size, leading_frame-stays}
 use Rattle.osm_pbf.specs.Reader.{IsPbfReader, PbfReaderValue, SamePbfSource, pbf_reading_left, pbf_unread}
 use Rattle.osm_pbf.specs.Reading.{blob_spot, frame_said, header_came, pbf_reading_from, said_before}
 use Rattle.osm_pbf.specs.Steps.{AnswersStep, PassedItems, StepsOn, one_while_good, pbf_handed, pbf_passed, pbf_refused, pbf_work_left}
@@ -127,7 +127,7 @@ said_none r more clean none =
 
 -- a reader that took a whole frame in hand
 frame_taken : (r : PbfReaderValue) (what : What) (raw : List ℕ) (size : ℕ) → r.said ≡ Ok [] →
-    front_frame r.blobs.unread ≡ IsWhole what raw size →
+    leading_frame r.blobs.unread ≡ IsWhole what raw size →
     PassedItems r
     (record r {
       blobs = blobs_passed size r.blobs;
@@ -137,8 +137,8 @@ frame_taken : (r : PbfReaderValue) (what : What) (raw : List ℕ) (size : ℕ) �
     }) []
 frame_taken r what raw size none is =
     let u = r.blobs.unread in
-    let fits = front_frame-size u what raw size is in
-    let told : front_frame u ≢ Short = λ short. let same : IsWhole what raw size ≡ Short = sym is ∙ short in cc in
+    let fits = leading_frame-size u what raw size is in
+    let told : leading_frame u ≢ Short = λ short. let same : IsWhole what raw size ≡ Short = sym is ∙ short in cc in
     record {
       same = record {
         limit = refl;
@@ -155,7 +155,7 @@ frame_taken r what raw size none is =
       reads = λ more clean.
           said_none r more clean none
           ∙ pbf_reading_from-whole r.came r.blobs.next (u ++ (r.piece ++ more)) clean what raw size
-          (front_frame-stays u (r.piece ++ more) told ∙ is)
+          (leading_frame-stays u (r.piece ++ more) told ∙ is)
           ∙ ap
           (λ all. said_before (blob_spot r.blobs.next) (frame_said r.came what raw)
           (pbf_reading_from (header_came r.came what) (next_start r.blobs.next size) all clean))
@@ -179,15 +179,15 @@ passed_frame old new blobs frame none took is =
       spot = at;
       said = frame_said old.came frame.what frame.raw;
     } in r) spot))
-    (frame_taken old frame.what frame.raw took.size none took.front)
+    (frame_taken old frame.what frame.raw took.size none took.leading)
 
 -- a reader that has a bad frame in hand
 pub passed_refused : (old new : PbfReaderValue) (blobs : BlobsValue) (cause : Cause) → old.said ≡ Ok [] →
     RefusedFrame old.blobs blobs cause → new ≡ pbf_refused cause (with_blobs blobs old) → PassedItems old new []
 passed_refused old new blobs cause none refused is =
     let u = old.blobs.unread in
-    let told : front_frame u ≢ Short =
-    λ short. let same : Faulty cause blobs.blamed ≡ Short = sym refused.front ∙ short in cc in
+    let told : leading_frame u ≢ Short =
+    λ short. let same : Faulty cause blobs.blamed ≡ Short = sym refused.leading ∙ short in cc in
     subst (λ r. PassedItems old r [])
     (sym (is ∙ ap (λ b. pbf_refused cause (with_blobs b old)) refused.same))
     (record {
@@ -196,7 +196,7 @@ passed_refused old new blobs cause none refused is =
       reads = λ more clean.
           said_none old more clean none
           ∙ pbf_reading_from-bad old.came old.blobs.next (u ++ (old.piece ++ more)) clean cause blobs.blamed
-          (front_frame-stays u (old.piece ++ more) told ∙ refused.front);
+          (leading_frame-stays u (old.piece ++ more) told ∙ refused.leading);
     })
 
 -- the frame in hand is good for at most one
@@ -208,7 +208,7 @@ good_or_bad (Err cause) = omega arith
 pub reader_passed : (r : PbfReaderValue) (blobs : BlobsValue) (frame : Frame) → IsPbfReader r →
     TookFrame r.blobs blobs frame → IsPbfReader (with_blobs blobs r)
 reader_passed r blobs frame kept took =
-    let fits = front_frame-size r.blobs.unread frame.what frame.raw took.size took.front in
+    let fits = leading_frame-size r.blobs.unread frame.what frame.raw took.size took.leading in
     let size : (blobs_passed took.size r.blobs).next.byte
     + length ((blobs_passed took.size r.blobs).unread ++ r.piece)
     ≡ r.blobs.next.byte + length (pbf_unread r) =
@@ -231,7 +231,7 @@ reader_passed r blobs frame kept took =
 pub steps_frame : (old new : PbfReaderValue) (blobs : BlobsValue) (frame : Frame) → old.said ≡ Ok [] →
     TookFrame old.blobs blobs frame → new ≡ pbf_passed frame (with_blobs blobs old) → StepsOn old new
 steps_frame old new blobs frame none took is =
-    let fits = front_frame-size old.blobs.unread frame.what frame.raw took.size took.front in
+    let fits = leading_frame-size old.blobs.unread frame.what frame.raw took.size took.leading in
     record {
       passes = passed_frame old new blobs frame none took is;
       falls = omega (
@@ -261,7 +261,7 @@ steps_refused old new blobs cause none refused is = record {
 
 -- a reader that handed its piece over, or had none
 pub steps_piece : (old mid new : PbfReaderValue) (result : Result Bool NoMemory) → old.said ≡ Ok [] →
-    front_frame old.blobs.unread ≡ Short → mid ≡ with_blobs (record old.blobs { blamed = None }) old →
+    leading_frame old.blobs.unread ≡ Short → mid ≡ with_blobs (record old.blobs { blamed = None }) old →
     OnOk result (new ≡ pbf_handed mid) → (result ≡ Ok false → mid.piece ≡ []) →
     (result ≡ Ok true → 0 < length mid.piece) → OnErr result (new ≡ mid) → AnswersStep old new result
 steps_piece old mid new (Ok true) none short same ok empty some err =
@@ -297,8 +297,8 @@ steps_piece old mid new (Ok false) none short same ok empty some err =
       holds = record {
         said = ap (λ r. r.said) all ∙ none;
         piece = ap (λ r. r.piece) all;
-        front = ap (λ r. front_frame r.blobs.unread) all
-            ∙ ap front_frame (ap (λ p. old.blobs.unread ++ p) nothing ∙ append-nil old.blobs.unread)
+        leading = ap (λ r. leading_frame r.blobs.unread) all
+            ∙ ap leading_frame (ap (λ p. old.blobs.unread ++ p) nothing ∙ append-nil old.blobs.unread)
             ∙ short;
       };
     }

@@ -12,7 +12,7 @@ use Rattle.osm_host.specs.declared.feed.Feed.{Feed}
 use Rattle.osm_host.specs.declared.feed.Feed.TheVariants.{Open, Failed}
 use Rattle.osm_host.proofs.FeedLemmas.{fits_after, given_is, open_after, take-limit}
 use Rattle.osm_host.proofs.PullLemmas.{pull_failed, pull_gave}
-use Rattle.osm_blob.proofs.FrontLemmas.{front_frame-few}
+use Rattle.osm_blob.proofs.LeadingLemmas.{leading_frame-few}
 use Rattle.osm_pbf.specs.Pulled.{FilledPiece}
 use Rattle.osm_pbf.specs.Reader.{CanPullPbf, IsPbfReader, PbfReaderValue, WantsPbf, pbf_fed, pbf_unread}
 use Rattle.osm_pbf.specs.Reading.{pbf_reading, pbf_reading_from, said_before}
@@ -136,7 +136,7 @@ holds_short old left more wants =
     omega (
       arith,
       more,
-      front_frame-few old.blobs.unread wants.holds.front,
+      leading_frame-few old.blobs.unread wants.holds.leading,
       length-append old.blobs.unread old.piece,
       ap length wants.holds.piece,
     )

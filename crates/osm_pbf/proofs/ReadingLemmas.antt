@@ -9,7 +9,7 @@ use Rattle.osm_entity.specs.declared.stream.End.TheVariants.{Done, Broken}
 use Rattle.osm_entity.specs.declared.verdict.Cause.{Cause}
 use Rattle.osm_entity.specs.declared.verdict.Spot.{Spot}
 use Rattle.osm_entity.specs.declared.verdict.Spot.TheVariants.{Blob}
-use Rattle.osm_blob.specs.Front.{Short, Whole as IsWhole, Faulty, front_frame}
+use Rattle.osm_blob.specs.Leading.{Short, Whole as IsWhole, Faulty, leading_frame}
 use Rattle.osm_blob.specs.Frames.{FrameStart, Frames, FramesStop, More, Bad, first_start, frames_after_stop, frames_from, frames_of, next_start}
 use Rattle.osm_blob.specs.declared.messages.What.{What}
 use Rattle.osm_blob.specs.declared.reading.Frame.{Frame}
@@ -114,7 +114,7 @@ pbf_reading-settled bytes more clean cause spot bad =
 
 -- the reading of bytes that begin with a whole frame
 pub pbf_reading_from-whole : (came : Bool) (start : FrameStart) (bytes : List ℕ) (clean : Bool) (what : What)
-    (raw : List ℕ) (size : ℕ) → front_frame bytes ≡ IsWhole what raw size →
+    (raw : List ℕ) (size : ℕ) → leading_frame bytes ≡ IsWhole what raw size →
     pbf_reading_from came start bytes clean
     ≡ said_before (blob_spot start) (frame_said came what raw)
     (pbf_reading_from (header_came came what) (next_start start size) (drop size bytes) clean)
@@ -123,13 +123,13 @@ pbf_reading_from-whole came start bytes clean what raw size is =
 
 -- the reading of bytes that are too few to tell a frame
 pub pbf_reading_from-short : (came : Bool) (start : FrameStart) (bytes : List ℕ) (clean : Bool) →
-    front_frame bytes ≡ Short →
+    leading_frame bytes ≡ Short →
     pbf_reading_from came start bytes clean ≡ only_ending (frames_ending clean came start (More bytes))
 pbf_reading_from-short came start bytes clean is = ap (frames_reading clean came) (frames_from-short start bytes is)
 
 -- the reading of bytes that begin with a bad frame
 pub pbf_reading_from-bad : (came : Bool) (start : FrameStart) (bytes : List ℕ) (clean : Bool) (cause : Cause)
-    (blamed : Option What) → front_frame bytes ≡ Faulty cause blamed →
+    (blamed : Option What) → leading_frame bytes ≡ Faulty cause blamed →
     pbf_reading_from came start bytes clean
     ≡ only_ending (BadAt (cause_blamed came cause blamed) (blob_spot start))
 pbf_reading_from-bad came start bytes clean cause blamed is =

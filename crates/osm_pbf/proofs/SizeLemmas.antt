@@ -11,7 +11,7 @@ use Rattle.osm_wire.specs.Written.{packed, shortest_varint, varint_within, writt
 use Rattle.osm_wire.proofs.WrittenLemmas.{shortest_varint-small}
 use Rattle.osm_block_write.specs.Columns.{bytes_field, delta_field, deltas, differences_from, number_field, packed_field}
 
--- a varint within so many bytes
+-- a varint within a number of bytes
 varint_within-size : (most n : ℕ) → length (varint_within most n) ≤ most
 varint_within-size zero n = omega arith
 varint_within-size (suc most) n =
@@ -95,7 +95,7 @@ packed_field-size number (n ∷ numbers) low = omega (
 )
 
 -- there are as many differences as numbers
-differences-length : (before : ℤ) (numbers : List ℤ) → length (differences_from before numbers) ≡ length numbers
+pub differences-length : (before : ℤ) (numbers : List ℤ) → length (differences_from before numbers) ≡ length numbers
 differences-length before [] = refl
 differences-length before (n ∷ numbers) = ap suc (differences-length n numbers)
 

@@ -165,7 +165,7 @@ none_left r clean holds =
     ap (λ said. said_before r.spot said (pbf_reading_from r.came r.blobs.next (pbf_unread r ++ []) clean)) holds.said
     ∙ ap (λ all. pbf_reading_from r.came r.blobs.next all clean)
     (append-nil (pbf_unread r) ∙ ap (λ p. r.blobs.unread ++ p) holds.piece ∙ append-nil r.blobs.unread)
-    ∙ pbf_reading_from-short r.came r.blobs.next r.blobs.unread clean holds.front
+    ∙ pbf_reading_from-short r.came r.blobs.next r.blobs.unread clean holds.leading
 
 -- a reader that holds no item has its verdict
 settles : (old : PbfReaderValue) → old.verdict ≡ Running → HoldsNoItem old →

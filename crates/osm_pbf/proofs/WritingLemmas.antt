@@ -16,8 +16,8 @@ use Rattle.osm_host.specs.Puts.{TakesPrefix}
 use Rattle.osm_block_write.specs.Making.{Holds, MakerValue}
 use Rattle.osm_block_write.specs.Runs.{Runs, greatest_run, open_run, runs_of, takes, with_entity, written_runs}
 use Rattle.osm_block_write.specs.declared.options.PbfOptions.{PbfOptions}
-use Rattle.osm_block_write.proofs.RunsLemmas.{runs_of-push, with_entity-full, with_entity-taken, written_runs-front}
-use Rattle.osm_pbf.specs.WrittenFile.{TookFile, TookFront, entities_of, header_frame, pbf_text, run_frame, run_frames, runs_of_items}
+use Rattle.osm_block_write.proofs.RunsLemmas.{runs_of-push, with_entity-full, with_entity-taken, written_runs-prefix}
+use Rattle.osm_pbf.specs.WrittenFile.{TookFile, TookPrefix, entities_of, header_frame, pbf_text, run_frame, run_frames, runs_of_items}
 use Rattle.osm_pbf.specs.Writer.{WriterValue, Wrote}
 
 -- bytes behind bytes
@@ -27,9 +27,9 @@ append_known-more None a b = refl
 append_known-more (Some xs) a b = ap Some (append_assoc xs a b)
 
 -- bytes, and a prefix of those behind them
-front-behind : (first before now : Option (List ℕ)) (a b : List ℕ) → before ≡ append_known first a →
+prefix-behind : (first before now : Option (List ℕ)) (a b : List ℕ) → before ≡ append_known first a →
     TakesPrefix b before now → TakesPrefix (a ++ b) first now
-front-behind first before now a b is (k, fits, took) = (
+prefix-behind first before now a b is (k, fits, took) = (
   length a + k,
   omega (arith, fits, length-append a b),
   took ∙ ap (λ o. append_known o (take k b)) is ∙ append_known-more first a (take k b)
@@ -37,13 +37,13 @@ front-behind first before now a b is (k, fits, took) = (
 )
 
 -- a prefix of bytes is one of more bytes
-front-more : (first now : Option (List ℕ)) (a b : List ℕ) → TakesPrefix a first now → TakesPrefix (a ++ b) first now
-front-more first now a b (k, fits, took) =
+prefix-more : (first now : Option (List ℕ)) (a b : List ℕ) → TakesPrefix a first now → TakesPrefix (a ++ b) first now
+prefix-more first now a b (k, fits, took) =
     (k, omega (arith, fits, length-append a b), took ∙ ap (append_known first) (sym (take-append-le k a b fits)))
 
 -- all bytes are a prefix of them
-front-whole : (first now : Option (List ℕ)) (a : List ℕ) → now ≡ append_known first a → TakesPrefix a first now
-front-whole first now a took = (
+prefix-whole : (first now : Option (List ℕ)) (a : List ℕ) → now ≡ append_known first a → TakesPrefix a first now
+prefix-whole first now a took = (
   length a,
   omega arith,
   took ∙ ap (append_known first) (sym (take_all (length a) a (omega arith))),
@@ -156,7 +156,7 @@ holds-none options m holds = holds
 pub text-before : (options : PbfOptions) (items more : List ItemValue) (end : End) →
     IsPrefix (pbf_text options (broken_off items)) (pbf_text options (record { items = items ++ more; end = end }))
 text-before options items more end =
-    let runs = written_runs-front options.batchlimit (entities_of items) (entities_of more) end in record {
+    let runs = written_runs-prefix options.batchlimit (entities_of items) (entities_of more) end in record {
       rest = run_frames options runs.rest;
       joined =
           ap
@@ -166,21 +166,21 @@ text-before options items more end =
           ∙ text-runs options (runs_of_items options items).closed runs.rest;
     }
 
--- a sink that took a front of the file of items took one of each that goes on
-pub front-onward : (options : PbfOptions) (first now : Option (List ℕ)) (items more : List ItemValue) (end : End) →
-    TookFront options first now (broken_off items) →
-    TookFront options first now (record { items = items ++ more; end = end })
-front-onward options first now items more end took =
+-- a sink that took a prefix of the file of items took one of each that goes on
+pub prefix-onward : (options : PbfOptions) (first now : Option (List ℕ)) (items more : List ItemValue) (end : End) →
+    TookPrefix options first now (broken_off items) →
+    TookPrefix options first now (record { items = items ++ more; end = end })
+prefix-onward options first now items more end took =
     let before = text-before options items more end in
     subst (λ text. TakesPrefix text first now) (sym before.joined)
-    (front-more first now (pbf_text options (broken_off items)) before.rest took)
+    (prefix-more first now (pbf_text options (broken_off items)) before.rest took)
 
 -- so did a sink that took it whole
 pub took-onward : (options : PbfOptions) (first now : Option (List ℕ)) (items more : List ItemValue) (end : End) →
     TookFile options first now (broken_off items) →
-    TookFront options first now (record { items = items ++ more; end = end })
+    TookPrefix options first now (record { items = items ++ more; end = end })
 took-onward options first now items more end took =
-    front-onward options first now items more end (front-whole first now (pbf_text options (broken_off items)) took)
+    prefix-onward options first now items more end (prefix-whole first now (pbf_text options (broken_off items)) took)
 
 -- a writer that took an item into its open run
 pub wrote-taken : (w new : WriterValue) (first now : Option (List ℕ)) (items : List ItemValue) (item : ItemValue) →
@@ -220,34 +220,34 @@ wrote-closed w new first before now items item same light full put holds wrote =
       ∙ ap (append_known first) (sym (text-closed w.options items item light full)));
 }
 
--- a writer that put a front of its open run before an item
-pub front-closed : (w : WriterValue) (first before now : Option (List ℕ)) (items : List ItemValue)
+-- a writer that put a prefix of its open run before an item
+pub prefix-closed : (w : WriterValue) (first before now : Option (List ℕ)) (items : List ItemValue)
     (item : ItemValue) → weight_of item.entity ≤ greatest_weight →
     ((runs_of_items w.options items).opened ≢ [] →
     takes w.options.batchlimit (runs_of_items w.options items).opened item.entity ≡ false) →
     TakesPrefix (run_frames w.options (open_run (runs_of_items w.options items).opened)) before now →
-    Wrote first before w items → TookFront w.options first now (broken_off (items ++ item ∷ []))
-front-closed w first before now items item light full put wrote =
+    Wrote first before w items → TookPrefix w.options first now (broken_off (items ++ item ∷ []))
+prefix-closed w first before now items item light full put wrote =
     subst (λ text. TakesPrefix text first now) (sym (text-closed w.options items item light full))
-    (front-behind first before now (pbf_text w.options (broken_off items))
+    (prefix-behind first before now (pbf_text w.options (broken_off items))
     (run_frames w.options (open_run (runs_of_items w.options items).opened)) wrote.took put)
 
 -- a writer that put its open run whole before an item that it didn't take
-pub front-unopened : (w : WriterValue) (first before now : Option (List ℕ)) (items : List ItemValue)
+pub prefix-unopened : (w : WriterValue) (first before now : Option (List ℕ)) (items : List ItemValue)
     (item : ItemValue) → weight_of item.entity ≤ greatest_weight →
     ((runs_of_items w.options items).opened ≢ [] →
     takes w.options.batchlimit (runs_of_items w.options items).opened item.entity ≡ false) →
     now ≡ append_known before (run_frames w.options (open_run (runs_of_items w.options items).opened)) →
-    Wrote first before w items → TookFront w.options first now (broken_off (items ++ item ∷ []))
-front-unopened w first before now items item light full put wrote =
-    front-closed w first before now items item light full
-    (front-whole before now (run_frames w.options (open_run (runs_of_items w.options items).opened)) put) wrote
+    Wrote first before w items → TookPrefix w.options first now (broken_off (items ++ item ∷ []))
+prefix-unopened w first before now items item light full put wrote =
+    prefix-closed w first before now items item light full
+    (prefix-whole before now (run_frames w.options (open_run (runs_of_items w.options items).opened)) put) wrote
 
--- a writer that put a front of its open run at the end
-pub front-done : (w : WriterValue) (first before now : Option (List ℕ)) (items : List ItemValue) →
+-- a writer that put a prefix of its open run at the end
+pub prefix-done : (w : WriterValue) (first before now : Option (List ℕ)) (items : List ItemValue) →
     TakesPrefix (run_frames w.options (open_run (runs_of_items w.options items).opened)) before now →
-    Wrote first before w items → TookFront w.options first now (record { items = items; end = Done })
-front-done w first before now items put wrote =
+    Wrote first before w items → TookPrefix w.options first now (record { items = items; end = Done })
+prefix-done w first before now items put wrote =
     subst (λ text. TakesPrefix text first now) (sym (text-done w.options items))
-    (front-behind first before now (pbf_text w.options (broken_off items))
+    (prefix-behind first before now (pbf_text w.options (broken_off items))
     (run_frames w.options (open_run (runs_of_items w.options items).opened)) wrote.took put)

@@ -1,5 +1,6 @@
 pub mod FrameLeft
 pub mod Pulled
+pub mod ReadBack
 pub mod Reader
 pub mod ReaderSeen
 pub mod Reading

@@ -13,7 +13,7 @@ use Rattle.osm_host.specs.Pulls.{FeedValue}
 use Rattle.osm_host.specs.declared.feed.Feed.{Feed}
 use Rattle.osm_host.specs.declared.feed.Feed.TheVariants.{Open}
 use Rattle.osm_blob.specs.Blobs.{BlobsValue}
-use Rattle.osm_blob.specs.Front.{Short, front_frame}
+use Rattle.osm_blob.specs.Leading.{Short, leading_frame}
 use Rattle.osm_pbf.specs.Reading.{pbf_reading_from, said_before}
 
 -- a PBF reader: its limit, what came of its source, whether a header came, the spot of the frame in hand and what that
@@ -53,7 +53,7 @@ pub record IsPbfReader (r : PbfReaderValue) : Type 0 where
 pub record HoldsNoItem (r : PbfReaderValue) : Type 0 where
   pub said : r.said ≡ Ok []
   pub piece : r.piece ≡ []
-  pub front : front_frame r.blobs.unread ≡ Short
+  pub leading : leading_frame r.blobs.unread ≡ Short
 
 -- a PBF reader may be pulled: it runs, and no earlier pull failed, ended or passed the limit
 pub record CanPullPbf (r : PbfReaderValue) : Type 0 where

@@ -43,5 +43,5 @@ abbrev pub TookFile : PbfOptions → Option (List ℕ) → Option (List ℕ) →
 TookFile options first now s = now ≡ append_known first (pbf_text options s)
 
 -- since it had taken `first`, a sink took a prefix of the PBF file of this stream
-abbrev pub TookFront : PbfOptions → Option (List ℕ) → Option (List ℕ) → Stream → Type 0
-TookFront options first now s = TakesPrefix (pbf_text options s) first now
+abbrev pub TookPrefix : PbfOptions → Option (List ℕ) → Option (List ℕ) → Stream → Type 0
+TookPrefix options first now s = TakesPrefix (pbf_text options s) first now

@@ -19,4 +19,4 @@ pub use reading_laws::{
     pbf_readers_come_before_their_files, pbf_readers_give_the_items_of_their_files,
 };
 pub use writing::PbfWriter;
-pub use writing_laws::pbf_files_grow;
+pub use writing_laws::{pbf_files_grow, pbf_files_read_back};

@@ -12,7 +12,7 @@ ghost use Rattle.osm_host.specs.Puts.{TakesPrefix};
 ghost use Rattle.osm_block_write.specs.Making.{Holds};
 ghost use Rattle.osm_block_write.specs.Runs.{open_run, takes};
 ghost use Rattle.osm_pbf.specs.Writer.{HoldsOpen, Wrote};
-ghost use Rattle.osm_pbf.specs.WrittenFile.{TookFile, TookFront, header_frame, run_frames};
+ghost use Rattle.osm_pbf.specs.WrittenFile.{TookFile, TookPrefix, header_frame, run_frames};
 
 use osm_blob::{What, frame};
 use osm_block_write::{AddError, BlockMaker, PbfOptions, header};
@@ -95,7 +95,7 @@ impl PbfWriter {
             Wrote first (K.taken sink.new) self.new (items ++ item.now ∷ [])) }
         ensures some { OnErr result ((first : Option (List ℕ)) (items : List ItemValue) →
             Wrote first (K.taken sink.old) self.old items →
-            TookFront self.old.options first (K.taken sink.new)
+            TookPrefix self.old.options first (K.taken sink.new)
             (record { items = items ++ item.now ∷ []; end = Broken })) }
 
         // What else changes.
@@ -121,7 +121,7 @@ impl PbfWriter {
             (record { items = items; end = end })) }
         ensures some { OnErr result ((first : Option (List ℕ)) (items : List ItemValue) →
             Wrote first (K.taken sink.old) self.old items →
-            TookFront self.old.options first (K.taken sink.new)
+            TookPrefix self.old.options first (K.taken sink.new)
             (record { items = items; end = end })) }
 
         // What else changes.

@@ -1,4 +1,4 @@
-use Rattle.osm_pbf.proofs.WritingLemmas.{front-onward, text-before, text-done, text-none, took-onward}
+use Rattle.osm_pbf.proofs.WritingLemmas.{prefix-onward, text-before, text-done, text-none, took-onward}
 use Rattle.osm_pbf.proofs.writing_laws.pbf_files_grow.Goals as goal
 
 pub returns-clause-header : goal.returns-clause-header
@@ -14,4 +14,4 @@ pub returns-clause-some : goal.returns-clause-some
 returns-clause-some c = took-onward
 
 pub returns-clause-more : goal.returns-clause-more
-returns-clause-more c = front-onward
+returns-clause-more c = prefix-onward

@@ -1,5 +1,5 @@
 use Rattle.std.proofs.Common.{refl}
-use Rattle.osm_blob.proofs.FrontLemmas.{front_frame-nil}
+use Rattle.osm_blob.proofs.LeadingLemmas.{leading_frame-nil}
 use Rattle.osm_pbf.proofs.StandingLemmas.{new_stands}
 use Rattle.osm_pbf.proofs.reading.PbfReader.new.Goals as goal
 
@@ -13,6 +13,6 @@ returns-clause-wants c = record {
   holds = record {
     said = c.none.ensures;
     piece = c.in_ok-new-2.ensures;
-    front = rw c.in_ok-new.ensures.new front_frame-nil;
+    leading = rw c.in_ok-new.ensures.new leading_frame-nil;
   };
 }

@@ -3,7 +3,7 @@ use Rattle.osm_entity.specs.Entities.{greatest_weight, weight_of}
 use Rattle.osm_entity.specs.declared.stream.End.TheVariants.{Broken}
 use Rattle.osm_block_write.proofs.ResultLemmas.{on_err}
 use Rattle.osm_pbf.specs.WrittenFile.{runs_of_items}
-use Rattle.osm_pbf.proofs.ClosingLemmas.{closed-front, closed-wrote, closing-front}
+use Rattle.osm_pbf.proofs.ClosingLemmas.{closed-prefix, closed-wrote, closing-prefix}
 use Rattle.osm_pbf.proofs.WritingLemmas.{took-onward, wrote-taken}
 use Rattle.osm_pbf.proofs.writing.PbfWriter.put.Goals as goal
 
@@ -19,7 +19,7 @@ returns-in_err-close-clause-some g c =
     subst (λ i. weight_of i.entity ≤ greatest_weight) c.item.view_is c.kept.ensures.light in
     let refused : c.add.result ≡ Ok false = search rules in
     on_err c.from_residual-in_err-close.result
-    (closing-front c.args.self.now c.add.new.self c.args.item.now (g.K.Sink.taken c.args.sink.now)
+    (closing-prefix c.args.self.now c.add.new.self c.args.item.now (g.K.Sink.taken c.args.sink.now)
     (g.K.Sink.taken c.close.new.sink) (c.add.ensures.same refused) light (c.add.ensures.refused refused)
     c.in_err-close.ensures.err)
 
@@ -29,7 +29,7 @@ returns-in_err-open-clause-some g c =
     subst (λ i. weight_of i.entity ≤ greatest_weight) c.item.view_is c.kept.ensures.light in
     let refused : c.add.result ≡ Ok false = search rules in
     on_err c.from_residual-in_err-open.result
-    (closed-front c.args.self.now c.add.new.self c.args.item.now (g.K.Sink.taken c.args.sink.now)
+    (closed-prefix c.args.self.now c.add.new.self c.args.item.now (g.K.Sink.taken c.args.sink.now)
     (g.K.Sink.taken c.close.new.sink) (c.add.ensures.same refused) light (c.add.ensures.refused refused)
     c.in_ok-close.ensures.ok)
 
