@@ -1,0 +1,3 @@
+pub mod GeneratorLemmas
+pub mod SummaryLemmas
+pub mod SumLemmas
