@@ -1,0 +1,16 @@
+pub mod KeyOrder
+pub mod RisingLemmas
+pub mod KeysLemmas
+pub mod RuleLemmas
+pub mod OrderLemmas
+pub mod StepLemmas
+pub mod HeadLemmas
+pub mod AdvanceLemmas
+pub mod CutLemmas
+pub mod TakeLemmas
+pub mod SwapLemmas
+pub mod TwoInputLemmas
+pub mod HeadsCalls
+pub mod HeadsMachine
+pub mod AppendCalls
+pub mod AppendMachine
