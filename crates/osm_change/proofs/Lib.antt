@@ -1,0 +1,3 @@
+pub mod LatestLemmas
+pub mod PlaceLemmas
+pub mod SimplifyMachine

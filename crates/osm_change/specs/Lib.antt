@@ -1,0 +1,4 @@
+pub mod Changes
+pub mod Applying
+pub mod Simplified
+pub mod Simplifying
