@@ -1,0 +1,14 @@
+pub mod CopyingLemmas
+pub mod DeviceLemmas
+pub mod EmptyingLemmas
+pub mod MachineParts
+pub mod MakingLaws
+pub mod MakingMachines
+pub mod MergeLaws
+pub mod ReadingFileLemmas
+pub mod ReadingLaws
+pub mod ReadingSizeLemmas
+pub mod ReadingStepLemmas
+pub mod ResultLemmas
+pub mod SumLemmas
+pub mod WritingLemmas

@@ -1,0 +1,16 @@
+pub mod Copying
+pub mod Devices
+pub mod Emptying
+pub mod MachineDevices
+pub mod MachineKinds
+pub mod Making
+pub mod Reading
+pub mod ReadingFiles
+pub mod ReadingFormats
+pub mod ReadingSteps
+pub mod Sinks
+pub mod Sums
+pub mod TaskMeanings
+pub mod Writers
+pub mod Writing
+pub mod Written
