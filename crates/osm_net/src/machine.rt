@@ -1,0 +1,39 @@
+//! Machines as a network sees them: by their contract alone.
+ghost use Rattle.std.specs.Prelude.{◌≡◌, IfOk, OnErr, OnOk};
+ghost use Rattle.osm_entity.specs.Calls.{Gives, Pulls, StopsInGive, StopsInPull, StopsInTake, Takes};
+ghost use Rattle.osm_entity.specs.Machines.{AreLawful, IsSameTask, Meanings};
+ghost use Rattle.osm_entity.specs.declared.stream.Want.TheVariants.{Give, Pull, Take};
+
+use osm_entity::{Message, NoMemory, Want};
+
+/// One task at work, one message at a time. After `NoMemory` it isn't called again.
+pub trait TaskMachine {
+    ghost of: { Meanings Self };
+
+    /// What the task can do next.
+    fn want(&self) -> Want
+        ensures { result ≡ of.wanted self.now };
+
+    /// Pulls a piece of the task's source, where it wants that.
+    fn pull(&mut self) -> Result<(), NoMemory>
+        requires { of.wanted self.old ≡ Pull }
+        ensures pulls { OnOk result (Pulls of self.old self.new) }
+        ensures stops { OnErr result (StopsInPull of self.old self.new) }
+        ensures same { IsSameTask of self.old self.new };
+
+    /// Takes a message at an input, where it wants that.
+    fn accept(&mut self, port: u32, message: Message) -> Result<(), NoMemory>
+        requires { of.wanted self.old ≡ Take port }
+        ensures takes { OnOk result (Takes of port message self.old self.new) }
+        ensures stops { OnErr result (StopsInTake of port message self.old self.new) }
+        ensures same { IsSameTask of self.old self.new };
+
+    /// Gives the next message at an output, where it wants that.
+    fn hand(&mut self, port: u32) -> Result<Message, NoMemory>
+        requires { of.wanted self.old ≡ Give port }
+        ensures gives { IfOk result (λ message. Gives of port message self.old self.new) }
+        ensures stops { OnErr result (StopsInGive of self.old self.new) }
+        ensures same { IsSameTask of self.old self.new };
+
+    ghost lawful: { AreLawful of };
+}
