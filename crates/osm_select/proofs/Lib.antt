@@ -1,0 +1,14 @@
+pub mod LinkLemmas
+pub mod RisingLemmas
+pub mod RoundLemmas
+pub mod DrawLemmas
+pub mod SetLemmas
+pub mod HeldLemmas
+pub mod PassedLemmas
+pub mod OrderLemmas
+pub mod CarriedLemmas
+pub mod JudgedLemmas
+pub mod PassingLemmas
+pub mod HoldingLemmas
+pub mod SelectingLemmas
+pub mod ClipLemmas

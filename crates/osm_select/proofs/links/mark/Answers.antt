@@ -1,0 +1,16 @@
+use Rattle.std.proofs.Common.{◌≡◌, get_or, rules, to_z, of_z, w64, pos}
+use Rattle.std.proofs.lemmas.Int.{to_z-of_z}
+use Rattle.osm_select.specs.IdSets.{among}
+use Rattle.osm_select.proofs.LinkLemmas.{marked_more, queued_more}
+use Rattle.osm_select.proofs.links.mark.Goals as goal
+
+pub loop-id-preserved : goal.loop-id-preserved
+loop-id-preserved c =
+    let id = get_or c.args.ids.now c.loop-id.id-index (pos 0) in
+    let same : to_z w64 (of_z w64 id) ≡ id = search (rules, to_z-of_z) in
+    record {
+      marked = marked_more (among c.args.marked.now) (among c.loop-id.marked) (among c.add.new.self) c.args.ids.now
+          c.loop-id.id-index _ c.loop-id-test.true same c.loop-id.invariant.marked c.in_ok-add.ensures;
+      queue = queued_more (among c.args.queue.now) c.loop-id.queue c.push.new.self c.args.ids.now c.loop-id.id-index _
+          c.loop-id-test.true same c.loop-id.invariant.queue c.in_ok-push.ensures.ok;
+    }

@@ -1,0 +1,14 @@
+pub mod IdSets
+pub mod Kinds
+pub mod Parts
+pub mod Passed
+pub mod Held
+pub mod Selected
+pub mod Judged
+pub mod Links
+pub mod Kept
+pub mod Order
+pub mod Passing
+pub mod Holding
+pub mod Selecting
+pub mod Example
