@@ -51,7 +51,7 @@ def is_inside(ring, place):
 
 
 def ring_of(numbers, corners, reach):
-    """A ring of so many corners at most, each within the reach of the one before."""
+    """A ring of at most `corners` corners, each within the reach of the one before."""
 
     def anywhere():
         return 2 * numbers.randint(-HALF // 2, HALF // 2)
