@@ -14,6 +14,7 @@ use osm_entity::{Body, Kind, Member, Members, NoMemory, Refs, Tag, Tags, Text};
 use std::alloc::Global;
 
 /// The text of an index.
+#[inline(always)]
 pub(crate) fn make_text(alloc: Global, setting: &Setting<'_>, index: i64) -> Result<Text, NoMemory>
     requires { list_all is_utf8 setting.now.texts ≡ true }
     ensures { IfOk result (λ text. text ≡ text_at setting.now.texts index) }

@@ -2,7 +2,7 @@
 //!
 //! A block is checked when its first item is asked for. Where that finds no memory, the block is
 //! still there, and is checked at the next call.
-ghost use Rattle.std.specs.Prelude.{◌≡◌, [], ◌∷◌, Ok, Err, IfOk, IfNone, IfSome, OnErr};
+ghost use Rattle.std.specs.Prelude.{◌≡◌, [], ◌∷◌, Ok, Err, Some, IfOk, IfNone, IfSome, OnErr};
 ghost use Rattle.osm_block_read.specs.Block.{block_said};
 ghost use Rattle.osm_block_read.specs.Planned.{IsPlanOf, items_planned};
 ghost use Rattle.osm_pbf.specs.Reading.{frame_said};
@@ -110,6 +110,21 @@ impl FrameLeft {
         ensures { self.new ≡ Err cause }
     {
         self.stage = Stage::Refused(cause);
+    }
+
+    /// The next item of a block that was checked. `None` where it has no further one, and where the
+    /// frame in hand is no such block; then nothing changes.
+    #[inline(always)]
+    pub(crate) fn next_checked(&mut self) -> Result<Option<Item>, NoMemory>
+        ensures some { IfOk result (λ found. IfSome found
+            (λ item. AnswersItem self.old self.new (Ok (Some item)))) }
+        ensures none { IfOk result (λ found. IfNone found (self.new ≡ self.old)) }
+        ensures err { OnErr result (self.new ≡ self.old) }
+    {
+        match self.stage {
+            Stage::Checked => next_planned(self.alloc, &mut self.plan, self.raw.as_slice()),
+            _ => Ok(None),
+        }
     }
 
     /// The next item. `None` where the frame says no further one; `Bad` where it is bad.

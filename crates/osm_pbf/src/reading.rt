@@ -1,5 +1,5 @@
 //! Reads the items of a raw PBF file, pull by pull.
-ghost use Rattle.std.specs.Prelude.{◌≡◌, ℕ, ◌+◌, ◌≤◌, ◌<◌, ◌∷◌, [], length, false, true, Ok, IfOk, IfNone, IfSome, OnOk, OnErr, IsOk, IsTrue, ◌↔◌};
+ghost use Rattle.std.specs.Prelude.{◌≡◌, ℕ, ◌+◌, ◌≤◌, ◌<◌, ◌∷◌, [], length, false, true, Ok, Some, IfOk, IfNone, IfSome, OnOk, OnErr, IsOk, IsTrue, ◌↔◌};
 ghost use Rattle.osm_entity.specs.declared.verdict.Verdict.TheVariants.{Input, Running};
 ghost use Rattle.osm_host.specs.Feeds.{reached_end};
 ghost use Rattle.osm_host.specs.Pulls.{PulledOnce, piece_size, source_value};
@@ -154,6 +154,32 @@ impl PbfReader {
         ensures stays { OnErr result (self.new.verdict ≡ self.old.verdict) }
         ensures same { SamePbfSource self.old self.new }
     {
+        if self.is_running() {
+            match self.take_checked() {
+                Ok(None) => {}
+                Ok(Some(item)) => return Ok(Some(item)),
+                Err(error) => return Err(error),
+            }
+        }
+        self.next_step_by_step()
+    }
+
+    // The same, by a loop over the frames. Most items come before it, from the block in hand: what
+    // stands here would only slow them down there.
+    #[inline(never)]
+    fn next_step_by_step(&mut self) -> Result<Option<Item>, NoMemory>
+        ensures some { IfOk result (λ found. IfSome found
+            (λ item. GavePbfItems self.old self.new (item ∷ []))) }
+        ensures falls { IfOk result (λ found. IfSome found
+            (λ item. pbf_items_left self.old ≡ item ∷ pbf_items_left self.new)) }
+        ensures none { IfOk result (λ found. IfNone found (GavePbfItems self.old self.new [])) }
+        ensures runs { IfOk result (λ found. IfSome found (λ _. self.new.verdict ≡ Running)) }
+        ensures stops { IfOk result (λ found. IfNone found
+            (self.new.verdict ≡ Running → WantsPbf self.new)) }
+        ensures err { OnErr result (GavePbfItems self.old self.new []) }
+        ensures stays { OnErr result (self.new.verdict ≡ self.old.verdict) }
+        ensures same { SamePbfSource self.old self.new }
+    {
         while self.is_running() {
             match self.take_item() {
                 Ok(Some(item)) => return Ok(Some(item)),
@@ -178,6 +204,18 @@ impl PbfReader {
         ensures { IsTrue result ↔ self.now.verdict ≡ Running }
     {
         matches!(self.verdict, Verdict::Running)
+    }
+
+    // Takes the next item of the block in hand, where that was checked and has one.
+    #[inline(always)]
+    fn take_checked(&mut self) -> Result<Option<Item>, NoMemory>
+        ensures same { self.new ≡ record self.old { said = self.new.said } }
+        ensures some { IfOk result (λ found. IfSome found
+            (λ item. AnswersItem self.old.said self.new.said (Ok (Some item)))) }
+        ensures none { IfOk result (λ found. IfNone found (self.new ≡ self.old)) }
+        ensures err { OnErr result (self.new ≡ self.old) }
+    {
+        self.left.next_checked()
     }
 
     // Takes the next item of the frame in hand.
