@@ -9,3 +9,4 @@ pub mod TableLawLemmas
 pub mod TablesLemmas
 pub mod TakingLemmas
 pub mod TextsLemmas
+pub mod VarintLemmas

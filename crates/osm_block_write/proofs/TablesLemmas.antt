@@ -22,11 +22,11 @@ abbrev pub is_in : List (List ℕ) → List ℕ → Bool
 is_in table text = list_any (bytes_eq text) table
 
 -- a text equals itself
-bytes_eq-self : (text : List ℕ) → bytes_eq text text ≡ true
+pub bytes_eq-self : (text : List ℕ) → bytes_eq text text ≡ true
 bytes_eq-self text = (bytes_decides text text).1 refl
 
 -- two texts are equal in either order
-bytes_eq-turned : (a b : List ℕ) → bytes_eq a b ≡ false → bytes_eq b a ≡ false
+pub bytes_eq-turned : (a b : List ℕ) → bytes_eq a b ≡ false → bytes_eq b a ≡ false
 bytes_eq-turned a b differ =
     cond_both (bytes_eq b a) true false (λ _. bytes_eq b a ≡ false)
     (λ is. absurd (false≢true (sym differ ∙ (bytes_decides a b).1 (sym ((bytes_decides b a).0 is))))) (λ not. not)

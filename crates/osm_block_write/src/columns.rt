@@ -9,8 +9,9 @@ ghost use Rattle.osm_wire.specs.Written.{packed};
 ghost use Rattle.osm_block_write.specs.Columns.{deltas};
 
 use crate::taken::Row;
+use crate::varints::append_varint;
 use osm_entity::{Bytes, Member, NoMemory};
-use osm_wire::{put_varint, zigzag};
+use osm_wire::zigzag;
 
 /// A column of numbers of 64 bits, one of each `T`.
 pub(crate) trait Column<T> {
@@ -139,7 +140,7 @@ pub(crate) fn append_deltas<T, C: Column<T>>(
     let mut before = 0;
     for item in items {
         let number = column.number(item);
-        put_varint(out, zigzag(number.wrapping_sub(before)))?;
+        append_varint(out, zigzag(number.wrapping_sub(before)))?;
         before = number;
     }
     Ok(())
@@ -157,7 +158,7 @@ pub(crate) fn append_small_deltas<T, C: SmallColumn<T>>(
     let mut before = 0;
     for item in items {
         let number = column.number(item);
-        put_varint(out, zigzag(i64::from(number.wrapping_sub(before))))?;
+        append_varint(out, zigzag(i64::from(number.wrapping_sub(before))))?;
         before = number;
     }
     Ok(())

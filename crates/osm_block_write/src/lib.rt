@@ -18,6 +18,7 @@ mod packing;
 mod places;
 mod taken;
 mod texts;
+mod varints;
 
 pub use heading::header;
 pub use laws::{runs_are_one_list, tables_name_their_texts};

@@ -28,5 +28,9 @@ pub(crate) fn lat_of(options: &PbfOptions, place: &Option<Place>) -> i64
 fn units_of(options: &PbfOptions, nanodegrees: i64) -> i64
     ensures { result ≡ in_units options.now nanodegrees }
 {
+    // A division by a constant is several times as fast.
+    if options.granularity == 100 {
+        return nanodegrees / 100;
+    }
     nanodegrees / i64::from(options.granularity)
 }

@@ -13,7 +13,7 @@ loop-item-preserved g c =
     let number = c.number-number.result in
     let bits = c.loop-item.before-bits in
     let column = g.C.Column.number_in c.args.column.now in
-    let out = c.put_varint.new.out in
+    let out = c.append_varint.new.out in
     let total = c.args.out.now ++ coming w64 (pos 0) (map column c.args.items.now) in
     let fits : FitsSigned w64 number = search rules in
     let wrapped : to_z w64 ((of_z w64 number + (2 ^ 64 - bits)) % 2 ^ 64) ≡ int_wrap w64 (number -ℤ to_z w64 bits) =
@@ -23,5 +23,5 @@ loop-item-preserved g c =
     (sym (to_z-of_z w64 number fits))
     (coming-next w64 column c.args.items.now c.loop-item.item-index c.item-item.result (to_z w64 bits) number
     c.loop-item.out out total c.loop-item-test.true c.item-item.is c.number-number.ensures
-    (c.in_ok-put_varint.ensures.ok ∙ ap (λ n. c.loop-item.out ++ shortest_varint n) code)
+    (c.in_ok-append_varint.ensures.ok ∙ ap (λ n. c.loop-item.out ++ shortest_varint n) code)
     c.loop-item.invariant)

@@ -13,7 +13,7 @@ loop-item-preserved g c =
     let number = c.number-number.result in
     let bits = c.loop-item.before-bits in
     let column = g.C.SmallColumn.number_in c.args.column.now in
-    let out = c.put_varint.new.out in
+    let out = c.append_varint.new.out in
     let total = c.args.out.now ++ coming w32 (pos 0) (map column c.args.items.now) in
     let fits : FitsSigned w32 number = search rules in
     let wrapped : to_z w32 ((of_z w32 number + (2 ^ 32 - bits)) % 2 ^ 32) ≡ int_wrap w32 (number -ℤ to_z w32 bits) =
@@ -24,5 +24,5 @@ loop-item-preserved g c =
     (sym (to_z-of_z w32 number fits))
     (coming-next w32 column c.args.items.now c.loop-item.item-index c.item-item.result (to_z w32 bits) number
     c.loop-item.out out total c.loop-item-test.true c.item-item.is c.number-number.ensures
-    (c.in_ok-put_varint.ensures.ok ∙ ap (λ n. c.loop-item.out ++ shortest_varint n) code)
+    (c.in_ok-append_varint.ensures.ok ∙ ap (λ n. c.loop-item.out ++ shortest_varint n) code)
     c.loop-item.invariant)

@@ -1,7 +1,7 @@
 use Rattle.std.proofs.Common.{sym, ◌∙◌}
 use Rattle.osm_block_write.proofs.TablesLemmas.{with_text-new}
 use Rattle.osm_block_write.proofs.TextsLemmas.{number-absent, number-found, table-found, table-lacks}
-use Rattle.osm_block_write.proofs.texts.Table.number.Goals as goal
+use Rattle.osm_block_write.proofs.texts.Table.find_or_push.Goals as goal
 
 pub returns-in-Some-clause-number : goal.returns-in-Some-clause-number
 returns-in-Some-clause-number c =

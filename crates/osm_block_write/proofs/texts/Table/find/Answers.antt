@@ -1,6 +1,6 @@
 use Rattle.std.proofs.Common.{◌∙◌}
 use Rattle.osm_block_write.proofs.TextsLemmas.{number-absent, number-found}
-use Rattle.osm_block_write.proofs.texts.Table.number_of.Goals as goal
+use Rattle.osm_block_write.proofs.texts.Table.find.Goals as goal
 
 pub returns-in-Some : goal.returns-in-Some
 returns-in-Some c =
