@@ -21,6 +21,9 @@ a million by the greatest seed|--read-made count=1000000 seed=4294967295|
 |Clean|||||nodes 890000/ways 100000/relations 10000/tags 50000/refs 400000/members 20000/weight 143980000/|
 ";
 
+/// The second line of the machine that makes.
+const ENDS: &[u8] = b"|Clean|";
+
 /// The first line of the machine that sums up.
 const SUMS: &[u8] = b"a summary|--write-summary b|";
 
@@ -42,12 +45,12 @@ fn hand_on<R: Abort + AllocGlobal>(rt: &R, from: &mut Driven, to: &mut Driven) {
 }
 
 fn check<R: Abort + AllocGlobal>(rt: &R, first: &[u8], second: &[u8]) {
-    let makes = row_of(first, b"".as_slice());
+    let makes = row_of(first, ENDS);
     let sums = row_of(SUMS, second);
     let mut from = machine_of(rt, &makes);
     let mut to = machine_of(rt, &sums);
     hand_on(rt, &mut from, &mut to);
-    assert!(rt; from.want() == Want::Ended);
+    judge(rt, &makes, from, b"".as_slice());
     judge(rt, &sums, to, b"".as_slice());
 }
 
