@@ -125,7 +125,7 @@ def weight(item):
 
 
 def runs(items, batchlimit):
-    """The items in runs of one kind, of at most so many, and not too heavy together."""
+    """The items in runs of one kind, each of at most batchlimit items, and not too heavy together."""
     out = []
     heavy = 0
     for item in items:
