@@ -12,3 +12,4 @@ pub mod RowLemmas
 pub mod SumLemmas
 pub mod TableLemmas
 pub mod TagLemmas
+pub mod WayLemmas

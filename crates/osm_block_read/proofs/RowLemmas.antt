@@ -12,6 +12,7 @@ use Rattle.osm_block_read.specs.Plain.{entry_tags, entry_with, info, no_info}
 use Rattle.osm_block_read.specs.declared.entry.EntryInfo.{EntryInfo}
 use Rattle.osm_block_read.specs.Rows.{AreGrown, AreRowsIn, IsAdded, IsBodyIn, IsRowIn, IsSaidAdded, body_in, entries_in, entries_of, entry_in}
 use Rattle.osm_block_read.specs.Spans.{IsPartAdded, IsSpanIn, part_in}
+use Rattle.osm_block_read.specs.WayCodes.{entry_tagged}
 use Rattle.osm_block_read.specs.declared.entry.EntryTag.{EntryTag}
 use Rattle.osm_block_read.specs.declared.row.Lists.{Lists}
 use Rattle.osm_block_read.specs.declared.row.Row.{Row}
@@ -115,18 +116,15 @@ row-added old new row is grown pushed within = record {
       (entries-grown old.lists new.lists old.rows.items grown is);
 }
 
--- an entity more, with the tags and the metadata that its fields say
-pub entity-added : (old new : Rows) (id : ℤ) (body : RowBody) (all_even even : Bool) (fields : List FieldValue)
-    (keys values : List ℕ)
-    (known : EntryInfo) (span : Span) → AreRowsIn old → IsBodyIn old.lists body → repeated 2 fields ≡ Some keys →
-    repeated 3 fields ≡ Some values → singular no_info info 4 fields ≡ Some known →
+-- an entity more, with these tags and this metadata
+pub entity-added : (old new : Rows) (id : ℤ) (body : RowBody) (all_even even : Bool) (keys values : List ℕ)
+    (known : EntryInfo) (span : Span) → AreRowsIn old → IsBodyIn old.lists body →
     IsPartAdded old.lists.tags.items new.lists.tags.items (entry_tags keys values) span →
     new.lists.refs ≡ old.lists.refs → new.lists.members ≡ old.lists.members →
     even ≡ (all_even && (length keys == length values)) →
     new.rows.items ≡ old.rows.items ++ record { even = even; id = id; info = known; tags = span; body = body } ∷ [] →
-    IsSaidAdded old new (entry_with id (body_in old.lists body) all_even fields)
-entity-added old new id body all_even even fields keys values known span rows within is_keys is_values is_info added
-    refs members is_even pushed =
+    IsSaidAdded old new (Some (entry_tagged id (body_in old.lists body) all_even keys values known))
+entity-added old new id body all_even even keys values known span rows within added refs members is_even pushed =
     let row : Row = record { even = even; id = id; info = known; tags = span; body = body } in
     let grown : AreGrown old.lists new.lists = record {
       tags = prefix-added old.lists.tags.items new.lists.tags.items (entry_tags keys values) span added;
@@ -139,13 +137,7 @@ entity-added old new id body all_even even fields keys values known span rows wi
       body = body-in-grown old.lists new.lists body grown within;
     } in
     let all = row-added old new row rows grown pushed row_in in
-    let entry : Entry = record {
-      even = all_even && (length keys == length values);
-      id = id;
-      info = known;
-      tags = entry_tags keys values;
-      body = body_in old.lists body;
-    } in
+    let entry : Entry = entry_tagged id (body_in old.lists body) all_even keys values known in
     let is : entry_in new.lists row ≡ entry =
     ap (λ tags. entry-with row tags (body_in new.lists body))
     (part-added old.lists.tags.items new.lists.tags.items (entry_tags keys values) span added)
@@ -154,6 +146,16 @@ entity-added old new id body all_even even fields keys values known span rows wi
     is_even in
     record {
       entry = entry;
-      said_is = rw (is_keys, is_values, is_info) refl;
+      said_is = refl;
       added = record { within = all.within; joined = all.joined ∙ ap (λ e. entries_of old ++ e ∷ []) is };
     }
+
+-- the same, where its fields say so
+pub entity-said : (old new : Rows) (id : ℤ) (body : EntryBody) (even : Bool) (fields : List FieldValue)
+    (keys values : List ℕ)
+    (known : EntryInfo) → repeated 2 fields ≡ Some keys → repeated 3 fields ≡ Some values →
+    singular no_info info 4 fields ≡ Some known →
+    IsSaidAdded old new (Some (entry_tagged id body even keys values known)) →
+    IsSaidAdded old new (entry_with id body even fields)
+entity-said old new id body even fields keys values known is_keys is_values is_info added =
+    rw (is_keys, is_values, is_info) added

@@ -7,6 +7,7 @@ pub mod Entries
 pub mod Faults
 pub mod Header
 pub mod HeaderTests
+pub mod InfoCodes
 pub mod ListCodes
 pub mod Numbers
 pub mod Pieces
@@ -19,3 +20,4 @@ pub mod Spans
 pub mod Strings
 pub mod Table
 pub mod Told
+pub mod WayCodes

@@ -56,8 +56,8 @@ pub(crate) fn read_codes(
     Ok(())
 }
 
-// Adds the numbers of an entry: one, or some packed.
-fn take_codes(codes: &mut Vec<u64>, value: Value<'_>) -> Result<(), BlockError>
+/// Adds the numbers of an entry: one, or some packed.
+pub(crate) fn take_codes(codes: &mut Vec<u64>, value: Value<'_>) -> Result<(), BlockError>
     ensures ok { OnOk result (
         behind codes.old.items (as_numbers (payload_seen value.entry)) ≡ Some codes.new.items) }
     ensures bad { IfErr result (BadWireWhere (as_numbers (payload_seen value.entry) ≡ None)) }

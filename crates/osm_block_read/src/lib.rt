@@ -11,6 +11,7 @@ mod entry;
 mod entry_ref;
 mod error;
 mod header;
+mod info_codes;
 mod judging;
 mod lists;
 mod making;
@@ -22,6 +23,7 @@ mod row;
 mod setting;
 mod span;
 mod table;
+mod way_codes;
 
 pub use error::BlockError;
 pub use header::read_header;

@@ -1,17 +1,21 @@
 //! Reads nodes, ways and relations that each have a message of their own ("Node", "Way", "Relation"
 //! and "Info" of the PBF format).
-ghost use Rattle.std.specs.Prelude.{◌≡◌, ◌==◌, ◌&&◌, length, OnOk, IfErr};
-ghost use Rattle.osm_wire.specs.Entries.{singular};
+ghost use Rattle.std.specs.Prelude.{◌≡◌, ◌==◌, ◌&&◌, length, Some, OnOk, IfErr};
+ghost use Rattle.std.specs.Option.{option_map};
+ghost use Rattle.osm_wire.specs.Entries.{said_or, singular};
 ghost use Rattle.osm_block_read.specs.Plain.{entry_with, info, no_info, node_entry, relation_entry, way_entry};
 ghost use Rattle.osm_block_read.specs.Rows.{AreRowsIn, IsBodyIn, IsSaidAdded, body_in};
 ghost use Rattle.osm_block_read.specs.Told.{BadWireWhere};
+ghost use Rattle.osm_block_read.specs.WayCodes.{entry_tagged};
 
 use crate::codes::{Codes, read_codes};
 use crate::entry::EntryInfo;
 use crate::error::{BAD_WIRE, BlockError};
+use crate::info_codes::InfoCodes;
 use crate::message::Message;
 use crate::row::{Row, RowBody, Rows};
-use osm_wire::{int32, int64, uint32, unzigzag};
+use osm_wire::{Fields, int64, unzigzag};
+use std::alloc::AllocError;
 
 impl Rows {
     /// Adds the node of a message.
@@ -37,11 +41,12 @@ impl Rows {
         ensures ok { OnOk result (IsSaidAdded self.old self.new (way_entry message.now)) }
         ensures bad { IfErr result (BadWireWhere (way_entry message.now ≡ None)) }
     {
-        let fields = Message::new(message).ok_or(BAD_WIRE)?;
-        let id = fields.needed(1).ok_or(BAD_WIRE)?;
-        read_codes(&mut codes.ids, &fields, 8)?;
+        let way = codes.read_way(message)?;
+        let info = info_of(way.described).ok_or(BAD_WIRE)?;
         let refs = self.lists.add_refs(codes.ids.as_slice())?;
-        self.add_with(codes, int64(id), RowBody::Along(refs), true, &fields)
+        let id = int64(way.id);
+        self.add_tagged(codes, id, RowBody::Along(refs), true, info)?;
+        Ok(())
     }
 
     /// Adds the relation of a message.
@@ -91,10 +96,28 @@ impl Rows {
         read_codes(&mut codes.keys, fields, 2)?;
         read_codes(&mut codes.values, fields, 3)?;
         let info = info_in(fields).ok_or(BAD_WIRE)?;
-        let even = is_even(even, codes.keys.as_slice(), codes.values.as_slice());
-        let tags = self
-            .lists
-            .add_tags(codes.keys.as_slice(), codes.values.as_slice())?;
+        self.add_tagged(codes, id, body, even, info)?;
+        Ok(())
+    }
+
+    // Adds an entity with the tags of the keys and values that were read.
+    fn add_tagged(
+        &mut self,
+        codes: &Codes,
+        id: i64,
+        body: RowBody,
+        even: bool,
+        info: EntryInfo,
+    ) -> Result<(), AllocError>
+        requires rows { AreRowsIn self.old }
+        requires body { IsBodyIn self.old.lists body }
+        ensures { OnOk result (IsSaidAdded self.old self.new (Some (entry_tagged id
+            (body_in self.old.lists body) even codes.now.keys.items codes.now.values.items info))) }
+    {
+        let keys = codes.keys.as_slice();
+        let values = codes.values.as_slice();
+        let even = is_even(even, keys, values);
+        let tags = self.lists.add_tags(keys, values)?;
         self.rows.push(Row {
             even,
             id,
@@ -125,7 +148,14 @@ fn are_even(kinds: &[u64], ids: &[u64], roles: &[u64]) -> bool
 fn info_in(fields: &Message<'_>) -> Option<EntryInfo>
     ensures { result ≡ singular no_info info 4 fields.now }
 {
-    match fields.single(4)? {
+    info_of(fields.single(4)?)
+}
+
+// The metadata of an entity that has this message of it, or none.
+fn info_of(message: Option<&[u8]>) -> Option<EntryInfo>
+    ensures { result ≡ said_or no_info info (option_map (λ s. s.now) message.entry) }
+{
+    match message {
         Some(message) => read_info(message),
         None => Some(EntryInfo {
             version: -1,
@@ -141,19 +171,13 @@ fn info_in(fields: &Message<'_>) -> Option<EntryInfo>
 fn read_info(message: &[u8]) -> Option<EntryInfo>
     ensures { result ≡ info message.now }
 {
-    let fields = Message::new(message)?;
-    let version = fields.scalar(u32::MAX as u64, 1)?;
-    let timestamp = fields.scalar(0, 2)?;
-    let changeset = fields.scalar(0, 3)?;
-    let uid = fields.scalar(0, 4)?;
-    let user = fields.scalar(0, 5)?;
-    let visible = fields.scalar(1, 6)?;
-    Some(EntryInfo {
-        version: int32(version),
-        timestamp: int64(timestamp),
-        changeset: int64(changeset),
-        uid: int32(uid),
-        user: uint32(user) as i64,
-        visible: visible != 0,
-    })
+    let mut codes = InfoCodes::new();
+    let mut fields = Fields::new(message);
+    while let Some(next) = fields.next() {
+        match next {
+            Ok(field) => codes = codes.after(&field)?,
+            Err(_) => return None,
+        }
+    }
+    Some(codes.info())
 }

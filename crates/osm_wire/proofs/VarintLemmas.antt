@@ -182,3 +182,93 @@ leading_number-overlong bytes within none much =
           (rw ten (take-GoOn bytes 10 10 (omega arith) (GoOn-more bytes 9 more goes_on))) in
           rw (none_of_ten, le-ltb (length bytes) 10 (omega (arith, within))) refl
     ]
+
+-- the first byte goes on, where it isn't the last of its varint
+first-goes_on : (bytes : List ℕ) → 0 < length bytes → position is_last_byte (take 1 bytes) ≡ None → GoOn bytes 1
+first-goes_on bytes within none =
+    let one : length (take 1 bytes) ≡ 1 = length-take-le 1 bytes (omega (arith, within)) in
+    GoOn-take bytes 1 1 (omega arith) (rw one at (none-goes_on (take 1 bytes) none))
+
+-- the number of two bytes
+pub leading_number-two : (bytes : List ℕ) → 4 < length bytes → position is_last_byte (take 1 bytes) ≡ None →
+    get_or bytes 1 0 < 128 →
+    leading_number bytes ≡ Ok (get_or bytes 0 0 % 128 + get_or bytes 1 0 % 128 * 128, 2)
+leading_number-two bytes within none ends =
+    leading_number-ends bytes 1 (get_or bytes 0 0 % 128 + get_or bytes 1 0 % 128 * 128) (omega arith)
+    (omega (arith, within)) (first-goes_on bytes (omega (arith, within)) none) ends
+    (omega (
+      arith,
+      varint_value_more bytes 0 (omega (arith, within)),
+      varint_value_more bytes 1 (omega (arith, within)),
+    ))
+    (omega arith)
+
+-- the number of three bytes
+pub leading_number-three : (bytes : List ℕ) → 4 < length bytes → position is_last_byte (take 1 bytes) ≡ None →
+    128 ≤ get_or bytes 1 0 → get_or bytes 2 0 < 128 →
+    leading_number bytes
+    ≡ Ok (get_or bytes 0 0 % 128 + get_or bytes 1 0 % 128 * 128 + get_or bytes 2 0 % 128 * 16384, 3)
+leading_number-three bytes within none second ends =
+    let one = first-goes_on bytes (omega (arith, within)) none in
+    leading_number-ends bytes 2
+    (get_or bytes 0 0 % 128 + get_or bytes 1 0 % 128 * 128 + get_or bytes 2 0 % 128 * 16384) (omega arith)
+    (omega (arith, within)) (GoOn-more bytes 1 one second) ends
+    (omega (
+      arith,
+      varint_value_more bytes 0 (omega (arith, within)),
+      varint_value_more bytes 1 (omega (arith, within)),
+      varint_value_more bytes 2 (omega (arith, within)),
+    ))
+    (omega arith)
+
+-- the number of four bytes
+pub leading_number-four : (bytes : List ℕ) → 4 < length bytes → position is_last_byte (take 1 bytes) ≡ None →
+    128 ≤ get_or bytes 1 0 → 128 ≤ get_or bytes 2 0 → get_or bytes 3 0 < 128 →
+    leading_number bytes
+    ≡ Ok (
+      get_or bytes 0 0 % 128 + get_or bytes 1 0 % 128 * 128 + get_or bytes 2 0 % 128 * 16384
+          + get_or bytes 3 0 % 128 * 2097152,
+      4,
+    )
+leading_number-four bytes within none second third ends =
+    let one = first-goes_on bytes (omega (arith, within)) none in
+    let two = GoOn-more bytes 1 one second in
+    leading_number-ends bytes 3
+    (get_or bytes 0 0 % 128 + get_or bytes 1 0 % 128 * 128 + get_or bytes 2 0 % 128 * 16384
+    + get_or bytes 3 0 % 128 * 2097152)
+    (omega arith) (omega (arith, within)) (GoOn-more bytes 2 two third) ends
+    (omega (
+      arith,
+      varint_value_more bytes 0 (omega (arith, within)),
+      varint_value_more bytes 1 (omega (arith, within)),
+      varint_value_more bytes 2 (omega (arith, within)),
+      varint_value_more bytes 3 (omega (arith, within)),
+    ))
+    (omega arith)
+
+-- the number of five bytes
+pub leading_number-five : (bytes : List ℕ) → 4 < length bytes → position is_last_byte (take 1 bytes) ≡ None →
+    128 ≤ get_or bytes 1 0 → 128 ≤ get_or bytes 2 0 → 128 ≤ get_or bytes 3 0 → get_or bytes 4 0 < 128 →
+    leading_number bytes
+    ≡ Ok (
+      get_or bytes 0 0 % 128 + get_or bytes 1 0 % 128 * 128 + get_or bytes 2 0 % 128 * 16384
+          + get_or bytes 3 0 % 128 * 2097152 + get_or bytes 4 0 % 128 * 268435456,
+      5,
+    )
+leading_number-five bytes within none second third fourth ends =
+    let one = first-goes_on bytes (omega (arith, within)) none in
+    let two = GoOn-more bytes 1 one second in
+    let three = GoOn-more bytes 2 two third in
+    leading_number-ends bytes 4
+    (get_or bytes 0 0 % 128 + get_or bytes 1 0 % 128 * 128 + get_or bytes 2 0 % 128 * 16384
+    + get_or bytes 3 0 % 128 * 2097152 + get_or bytes 4 0 % 128 * 268435456)
+    (omega arith) (omega (arith, within)) (GoOn-more bytes 3 three fourth) ends
+    (omega (
+      arith,
+      varint_value_more bytes 0 (omega (arith, within)),
+      varint_value_more bytes 1 (omega (arith, within)),
+      varint_value_more bytes 2 (omega (arith, within)),
+      varint_value_more bytes 3 (omega (arith, within)),
+      varint_value_more bytes 4 (omega (arith, within)),
+    ))
+    (omega arith)

@@ -15,10 +15,23 @@ pub fn varint(bytes: &[u8], at: usize) -> Result<(u64, usize), WireError>
     ensures value { result ≡ leading_number (drop at bytes.now) }
     ensures within { IfOk result (λ p. (0 < p.1) × (at + p.1 ≤ length bytes.now)) }
 {
-    first_varint(&bytes[at..])
+    packed_varint(&bytes[at..])
 }
 
-/// The number of the varint at the beginning, and how many bytes it takes, as `varint` gives them.
+// The number of the varint at the beginning, and how many bytes it takes. Packed numbers are mostly
+// read by it.
+#[inline(always)]
+fn packed_varint(bytes: &[u8]) -> Result<(u64, usize), WireError>
+    ensures value { result ≡ leading_number bytes.now }
+    ensures within { IfOk result (λ p. (0 < p.1) × (p.1 ≤ length bytes.now)) }
+{
+    match bytes {
+        [byte, ..] if *byte < 128 => Ok((*byte as u64, 1)),
+        _ => near_varint(bytes),
+    }
+}
+
+/// The same, for the varints of fields, which are mostly of one byte.
 #[inline(always)]
 pub(crate) fn first_varint(bytes: &[u8]) -> Result<(u64, usize), WireError>
     ensures value { result ≡ leading_number bytes.now }
@@ -30,8 +43,47 @@ pub(crate) fn first_varint(bytes: &[u8]) -> Result<(u64, usize), WireError>
     }
 }
 
-// The same, byte by byte up to the ninth. Most varints of files have one byte and don't come here.
+// The same, where the first byte isn't the last.
 fn long_varint(bytes: &[u8]) -> Result<(u64, usize), WireError>
+    requires { position is_last_byte (take 1 bytes.now) ≡ None }
+    ensures value { result ≡ leading_number bytes.now }
+    ensures within { IfOk result (λ p. (0 < p.1) × (p.1 ≤ length bytes.now)) }
+{
+    near_varint(bytes)
+}
+
+// The same, without a loop where there are two to five bytes.
+#[inline(always)]
+fn near_varint(bytes: &[u8]) -> Result<(u64, usize), WireError>
+    requires { position is_last_byte (take 1 bytes.now) ≡ None }
+    ensures value { result ≡ leading_number bytes.now }
+    ensures within { IfOk result (λ p. (0 < p.1) × (p.1 ≤ length bytes.now)) }
+{
+    let [first, second, third, fourth, fifth, ..] = bytes else {
+        return far_varint(bytes);
+    };
+    let number = (*first % 128) as u64 + (*second % 128) as u64 * (1 << 7);
+    if *second < 128 {
+        return Ok((number, 2));
+    }
+    let number = number + (*third % 128) as u64 * (1 << 14);
+    if *third < 128 {
+        return Ok((number, 3));
+    }
+    let number = number + (*fourth % 128) as u64 * (1 << 21);
+    if *fourth < 128 {
+        return Ok((number, 4));
+    }
+    let number = number + (*fifth % 128) as u64 * (1 << 28);
+    if *fifth < 128 {
+        return Ok((number, 5));
+    }
+    far_varint(bytes)
+}
+
+// The same of any bytes, byte by byte up to the ninth.
+#[inline(never)]
+fn far_varint(bytes: &[u8]) -> Result<(u64, usize), WireError>
     ensures value { result ≡ leading_number bytes.now }
     ensures within { IfOk result (λ p. (0 < p.1) × (p.1 ≤ length bytes.now)) }
 {

@@ -1,7 +1,7 @@
 use Rattle.std.proofs.Common.{◌≡◌, length, take, sym, length-take, arith}
 use Rattle.std.specs.Prelude.{min}
 use Rattle.osm_wire.proofs.VarintLemmas.{GoOn-more, leading_number-ends, number_more, position-none, take-GoOn}
-use Rattle.osm_wire.proofs.varints.long_varint.Goals as goal
+use Rattle.osm_wire.proofs.varints.far_varint.Goals as goal
 
 pub overflow_add-number : goal.overflow_add-number
 overflow_add-number c =

@@ -1,7 +1,7 @@
 use Rattle.std.proofs.Common.{◌≡◌, ◌<◌, ◌^◌, ◌*◌, take}
 use Rattle.osm_wire.specs.Varints.{varint_value}
 use Rattle.osm_wire.proofs.VarintLemmas.{GoOn}
-use Rattle.osm_wire.proofs.varints.long_varint.Given as goal
+use Rattle.osm_wire.proofs.varints.far_varint.Given as goal
 
 abbrev pub invariant-loop-size : goal.invariant-loop-size
 invariant-loop-size l = record {
