@@ -1,5 +1,5 @@
 //! Whether the tags of an entity match what a filter looks for. Nothing here takes memory.
-ghost use Rattle.std.specs.Prelude.{◌≡◌, ◌==◌, bytes_eq};
+ghost use Rattle.std.specs.Prelude.{◌≡◌, ◌↔◌, ◌==◌, IsTrue, bytes_eq};
 ghost use Rattle.std.specs.List.{list_any};
 ghost use Rattle.osm_entity.specs.Items.{kind_of};
 ghost use Rattle.osm_entity.specs.Keys.{kind_rank};
@@ -28,16 +28,24 @@ fn is_wanted(values: &Option<Texts>, value: &Text) -> bool
     }
 }
 
-fn passes(test: &TagTest, tag: &Tag) -> bool
-    ensures { result ≡ passes_test test.now tag.now }
+fn is_of_bytes(text: &Text, bytes: &[u8]) -> bool
+    ensures { IsTrue result ↔ (text.now ≡ bytes.now) }
 {
-    is_same(&tag.key, &test.key) && is_wanted(&test.values, &tag.value)
+    text.as_slice() == bytes
 }
 
+fn has_bytes(text: &Text, bytes: &[u8]) -> bool
+    ensures { result ≡ bytes_eq text.now bytes.now }
+{
+    is_of_bytes(text, bytes)
+}
+
+// The test's key is taken apart once for all tags: most of them have another one.
 fn has_passing_tag(test: &TagTest, tags: &[Tag]) -> bool
     ensures { result ≡ list_any (passes_test test.now) tags.now }
 {
-    tags.iter().any(|tag| passes(test, tag))
+    let key = test.key.as_slice();
+    tags.iter().any(|tag| has_bytes(&tag.key, key) && is_wanted(&test.values, &tag.value))
 }
 
 fn pass_some(tests: &[TagTest], tags: &[Tag]) -> bool
