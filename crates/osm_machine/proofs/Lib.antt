@@ -1,10 +1,13 @@
 pub mod CopyingLemmas
 pub mod DeviceLemmas
 pub mod EmptyingLemmas
+pub mod LimitLemmas
 pub mod MachineParts
 pub mod MakingLaws
 pub mod MakingMachines
 pub mod MergeLaws
+pub mod OptionLemmas
+pub mod PullLemmas
 pub mod ReadingFileLemmas
 pub mod ReadingLaws
 pub mod ReadingSizeLemmas

@@ -1,5 +1,5 @@
 -- A machine that is made of a kind of task is new, means what the kind says, and has its devices.
-use Rattle.std.proofs.Common.{◌≡◌, Bool, true, false, Option, Some, None, refl, sym, subst, ◌∙◌}
+use Rattle.std.proofs.Common.{◌≡◌, Bool, true, false, Option, Some, None, refl, sym, ap, subst, ◌∙◌}
 use Rattle.std.specs.Option.{option_map}
 use Rattle.osm_entity.specs.Machines.{IsNew, Meanings}
 use Rattle.osm_entity.specs.Tasks.{TaskMeaning}
@@ -9,7 +9,7 @@ use Rattle.osm_machine.specs.Devices.{SourceSeen}
 use Rattle.osm_machine.specs.MachineDevices.{sink_of, source_of}
 use Rattle.osm_machine.specs.MachineKinds.{machines}
 use Rattle.osm_machine.specs.Sinks.{SinkSeen}
-use Rattle.osm_machine.specs.TaskMeanings.{IsGivenWhere, IsMachine, IsMachineOf, IsMeantBy, reads_file}
+use Rattle.osm_machine.specs.TaskMeanings.{IsGivenWhere, IsMachine, IsMachineOf, kind_meaning, reads_file}
 use Rattle.osm_machine.specs.declared.kind.MachineKind.{MachineKind}
 use Rattle.osm_machine.proofs.SumLemmas.{IsPart, part_is_new}
 
@@ -27,35 +27,27 @@ module _ {S K I O : Type 0} (kind known : TaskKind) (is : kind ≡ known) (sourc
       (task : TaskMeaning) →
       reads_file known ≡ false → writes_file known ≡ false → IsGivenWhere (reads_file kind) source Q →
       IsGivenWhere (writes_file kind) sink R →
-      source_of (all p) ≡ None → sink_of (all p) ≡ None → IsNew of p → of.task p ≡ task → IsMeantBy known task →
+      source_of (all p) ≡ None → sink_of (all p) ≡ None → IsNew of p → of.task p ≡ task → kind_meaning known ≡ task →
       IsMachineOf kind (option_map source_seen source) (option_map sink_seen sink) (all p)
   made_without of all part p task reads writes source_given sink_given source_none sink_none new is_task meant = record {
-    task = task;
-    meant = subst (λ k. IsMeantBy k task) (sym is) meant;
-    machine = record {
-      new = part_is_new of machines all part p new;
-      task_is = part.task p ∙ is_task;
-      source_is = source_none ∙ none_given Q (reads_file known) source source_seen reads
-          (subst (λ k. IsGivenWhere (reads_file k) source Q) is source_given);
-      sink_is = sink_none ∙ none_given R (writes_file known) sink sink_seen writes
-          (subst (λ k. IsGivenWhere (writes_file k) sink R) is sink_given);
-    };
+    new = part_is_new of machines all part p new;
+    task_is = part.task p ∙ is_task ∙ sym (ap kind_meaning is ∙ meant);
+    source_is = source_none ∙ none_given Q (reads_file known) source source_seen reads
+        (subst (λ k. IsGivenWhere (reads_file k) source Q) is source_given);
+    sink_is = sink_none ∙ none_given R (writes_file known) sink sink_seen writes
+        (subst (λ k. IsGivenWhere (writes_file k) sink R) is sink_given);
   }
 
 module _ {S K I O : Type 0} (kind known : TaskKind) (is : kind ≡ known) (source : Option I) (source_seen : I → SourceSeen)
     (sink : Option O) (sink_seen : O → SinkSeen) (Q : I → Type 0) where
   -- a machine that writes
   pub made_writer : (m : MachineKind S K) (task : TaskMeaning) → reads_file known ≡ false →
-      IsGivenWhere (reads_file kind) source Q → IsMeantBy known task → IsMachine task None (option_map sink_seen sink) m →
+      IsGivenWhere (reads_file kind) source Q → kind_meaning known ≡ task → IsMachine task None (option_map sink_seen sink) m →
       IsMachineOf kind (option_map source_seen source) (option_map sink_seen sink) m
   made_writer m task reads source_given meant made = record {
-    task = task;
-    meant = subst (λ k. IsMeantBy k task) (sym is) meant;
-    machine = record {
-      new = made.new;
-      task_is = made.task_is;
-      source_is = made.source_is ∙ none_given Q (reads_file known) source source_seen reads
-          (subst (λ k. IsGivenWhere (reads_file k) source Q) is source_given);
-      sink_is = made.sink_is;
-    };
+    new = made.new;
+    task_is = made.task_is ∙ sym (ap kind_meaning is ∙ meant);
+    source_is = made.source_is ∙ none_given Q (reads_file known) source source_seen reads
+        (subst (λ k. IsGivenWhere (reads_file k) source Q) is source_given);
+    sink_is = made.sink_is;
   }

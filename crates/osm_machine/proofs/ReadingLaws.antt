@@ -17,7 +17,6 @@ use Rattle.osm_entity.proofs.MachineLemmas.{verdict_as-read}
 use Rattle.osm_entity.proofs.PortLemmas.{has_end-fixed, items_of-fixed, stream_of-fixed, stream_of-none}
 use Rattle.osm_entity.proofs.PrefixLemmas.{prefix_append, prefix_itself}
 use Rattle.osm_entity.proofs.StreamLemmas.{before_itself, before_onward}
-use Rattle.osm_host.specs.Feeds.{FaultsOfPull}
 use Rattle.osm_host.specs.declared.feed.Feed.TheVariants.{Failed}
 use Rattle.osm_machine.specs.Reading.{HasRead, IsReady, ReadingDevices, ReadingStands, ReadingValue, are_pulls_over, end_judged, is_closed, reading, reading_verdict, reading_wants, ready_items}
 use Rattle.osm_machine.specs.ReadingFiles.{FileStands, file_fed, file_verdict}
@@ -57,9 +56,10 @@ read_devices m items given read blamed =
     record {
       source = read.source;
       counted = fits.counted;
+      few = read.few;
       clean = fits.clean;
-      blamed = λ is. subst (λ feed. FaultsOfPull feed given.made.source.value.faults m.source.value.faults)
-          (blamed is) read.faults;
+      faults = read.faults;
+      blamed = blamed;
     }
 
 -- a machine that gave items alone is behind

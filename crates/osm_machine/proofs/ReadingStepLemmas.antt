@@ -87,16 +87,18 @@ asked_read old new items given none asked read = record {
   over = read.over ∙ ap (λ (fed : FeedValue). are_pulls_over fed.feed) (sym asked.reader.fed);
   source = subst (λ now. SourceStands given.made.source now given.bytes given.came) (sym asked.source) read.source;
   faults = rw (asked.reader.fed, asked.source) read.faults;
+  few = rw asked.reader.fed read.few;
 }
 
 -- a machine that pulled has read what came
 pulled_read : (old mid : ReadingValue) (items : List ItemValue) (given : Given ReadingValue) →
     ready_items old.ready ≡ [] → ready_items mid.ready ≡ [] → FileWants old.reader → (file_fed old.reader).limit < 2 ^ 64 →
+    IsSameFile old.reader mid.reader →
     (pull : PulledOnce file_fed FileStands old.source.value mid.source.value old.reader mid.reader) →
     HasRead old items given →
     HasRead mid items
     (with_piece (file_fed old.reader).limit pull.bytes (reached_end (file_fed mid.reader).feed) given)
-pulled_read old mid items given none none_then wants sized pull read =
+pulled_read old mid items given none none_then wants sized same pull read =
     let stood : FileStands old.reader given.bytes given.came items = unready old items given none read in
     let fits = file_fed_by old.reader given.bytes given.came items stood in
     let open_ : (file_fed old.reader).feed ≡ Open = (file_open old.reader wants).1 in
@@ -124,6 +126,7 @@ pulled_read old mid items given none none_then wants sized pull read =
       };
       faults = subst (λ before. FaultsOfPull (file_fed mid.reader).feed before mid.source.value.faults) calm
           pull.gave.faults;
+      few = omega (arith, within, pull.gave.small, length-append given.bytes pull.bytes, same.limit);
     }
 
 -- what a reader gave stays of bytes for which it stands, after a pull
@@ -230,7 +233,7 @@ pulled_asked old mid new steps items given read =
     (with_piece (file_fed old.reader).limit steps.pull.bytes (reached_end (file_fed mid.reader).feed) given)
     (ap ready_items steps.nothing_yet) steps.asked
     (pulled_read old mid items given (ap ready_items steps.nothing) (ap ready_items steps.nothing_yet) steps.wants
-    steps.sized steps.pull read)
+    steps.sized steps.same steps.pull read)
 
 pulled_left : (old mid new : ReadingValue) → PulledAndAsked old mid new → reading_left new < reading_left old
 pulled_left old mid new steps =
@@ -297,6 +300,7 @@ gave_asked item old mid new items given steps read =
       over = read.over ∙ ap (λ r. are_pulls_over (file_fed r).feed) (sym steps.reader);
       source = rw steps.source read.source;
       faults = rw (steps.reader, steps.source) read.faults;
+      few = rw steps.reader read.few;
     })
 
 gave_item : (y : List Message) (old : ReadingValue) (r : FileReader) (item : ItemValue) (given : Given ReadingValue) →
@@ -369,6 +373,7 @@ reading_gives_end old new steps = record {
       over = s.read.over ∙ ap (λ r. are_pulls_over (file_fed r).feed) (sym steps.reader);
       source = rw steps.source s.read.source;
       faults = rw (steps.reader, steps.source) s.read.faults;
+      few = rw steps.reader s.read.few;
     };
     ready = rw (steps.reader, steps.closed) (subst (IsReady old.reader) steps.ready s.ready);
   };
@@ -399,6 +404,7 @@ reading_is_new m is stands wants = record {
       calm = λ came. refl;
     };
     faults = rw (file_open m.reader wants).1 refl;
+    few = omega arith;
   };
   ready = rw is wants;
 }

@@ -1,6 +1,6 @@
 -- The machine that writes a file is lawful, put by put.
 use Rattle.std.proofs.Common.{◌≡◌, ℕ, ◌<◌, List, [], ◌∷◌, ◌++◌, length, take, Bool, true, false, Option, Some, None, refl, sym, ap, subst, ◌∙◌, arith}
-use Rattle.std.specs.Prelude.{◌≢◌, ◌↔◌, Ok, Err, OnErr, OnOk}
+use Rattle.std.specs.Prelude.{◌≢◌, ◌↔◌, Ok, Err, OnErr, OnOk, IsSome}
 use Rattle.std.specs.declared.result.Result.{Result}
 use Rattle.std.specs.Io.KnownBytes.{append_known}
 use Rattle.std.specs.List.{flat_map}
@@ -98,6 +98,24 @@ told_none None now text fresh same = rw same tt
 told_none (Some bytes) now text fresh same =
     subst (λ taken. WrotePrefix taken text) (sym (same ∙ ap Some fresh)) (prefix_none text)
 
+-- a sink that told what it took still does
+appended_told : (first now : Option (List ℕ)) (text : List ℕ) → now ≡ append_known first text → IsSome first → IsSome now
+appended_told None now text took is = cc
+appended_told (Some bytes) now text took is = subst IsSome (sym took) refl
+
+taken_told : (first now : Option (List ℕ)) (text : List ℕ) → TakesPrefix text first now → IsSome first → IsSome now
+taken_told first now text (k, fits, took) is = appended_told first now (take k text) took is
+
+written_told : (end : Option End) (writer : FileWriter) (first now : Option (List ℕ)) (x : List Message) →
+    HasWritten end writer first now x → IsSome first → IsSome now
+written_told None (Opl writer) first now x took is = appended_told first now _ took is
+written_told None (Pbf file) first now x took is = by file.begun took where
+  by : (begun : Bool) → PbfWrote begun file.writer first now (items_of x) → IsSome now
+  by true wrote = appended_told first now _ wrote.took is
+  by false wrote = subst IsSome (sym wrote.1) is
+written_told None (Summary summary) first now x took is = subst IsSome (sym took.0) is
+written_told (Some end) writer first now x took is = appended_told first now (text_taken writer x) took is
+
 -- what it took of the items before their end is a prefix of their file
 wrote_prefix : (writer : FileWriter) (first now : Option (List ℕ)) (items : List ItemValue) → TookNothing first →
     FileWrote writer first now items → WrotePrefix now (form_text (form_of writer) (broken_after items))
@@ -138,7 +156,7 @@ writing_behind : (m : WritingValue) (x y : Ports) (given : Given WritingValue) �
 writing_behind m x y given s = record {
   gave = λ port known. absurd (omega (arith, known));
   wrote = wrote_by m.puts m.end m.writer given.made.sink.taken m.sink.taken (x 0) s.fresh s.met s.wrote;
-  devices = s.faults;
+  devices = s.devices;
 }
 
 first_port : (port : ℕ) → port < 1 → 0 ≡ port
@@ -232,7 +250,7 @@ open_good m x given good open_end s = (
   none_came x (sym open_end ∙ s.met),
   subst (λ d. WroteBy Good d m.writer given.made.sink.taken m.sink.taken x) open_end
       (subst (λ p. WroteBy p m.end m.writer given.made.sink.taken m.sink.taken x) good s.wrote),
-  subst (λ p. FaultsOfPuts p given.made.sink.faults m.sink.faults) good s.faults,
+  subst (λ p. FaultsOfPuts p given.made.sink.faults m.sink.faults) good s.devices.faults,
 )
 
 module _ (m : WritingValue) (message : Message) (end : Option End) (new : FileWriter) (now : SinkSeen)
@@ -246,7 +264,11 @@ module _ (m : WritingValue) (message : Message) (end : Option End) (new : FileWr
         fresh = s.fresh;
         wrote = did.wrote given.made.sink.taken x stood.0 stood.1;
         met = met ∙ end_taken-more message x stood.0;
-        faults = did.faults ∙ stood.2;
+        devices = record {
+          faults = did.faults ∙ stood.2;
+          told = written_told end new given.made.sink.taken now.taken (x ++ message ∷ [])
+              (did.wrote given.made.sink.taken x stood.0 stood.1);
+        };
       }
   took_good x given (Err Failed) runs did s =
       let stood = open_good m x given good open_end s in
@@ -257,7 +279,10 @@ module _ (m : WritingValue) (message : Message) (end : Option End) (new : FileWr
             (told_prefix given.made.sink.taken now.taken text s.fresh
             (did.some given.made.sink.taken x stood.0 stood.1));
         met = met ∙ end_taken-more message x stood.0;
-        faults = subst (λ n. Rises n now.faults) stood.2 did.faults;
+        devices = record {
+          faults = subst (λ n. Rises n now.faults) stood.2 did.faults;
+          told = taken_told given.made.sink.taken now.taken text (did.some given.made.sink.taken x stood.0 stood.1);
+        };
       }
   took_good x given (Err Memory) runs did s = absurd (runs refl)
 
@@ -283,7 +308,11 @@ module _ (m : WritingValue) (message : Message) (end : Option End) (new : FileWr
           wrote = subst (λ f. WrotePrefix now.taken (form_text f (stream_of (x 0 ++ message ∷ [])))) (sym did.form)
               (told_prefix given.made.sink.taken now.taken text s.fresh
               (did.some given.made.sink.taken (x 0) stood.0 stood.1));
-          devices = did.faults ∙ stood.2;
+          devices = record {
+            faults = did.faults ∙ stood.2;
+            told = taken_told given.made.sink.taken now.taken text
+                (did.some given.made.sink.taken (x 0) stood.0 stood.1);
+          };
         };
         verdict = refl;
       }
@@ -303,7 +332,7 @@ drop_takes m message end bad open_end met = record {
         fresh = s.fresh;
         wrote = dropped m.puts (x 0) given.made.sink.taken bad s.wrote;
         met = met ∙ end_taken-more message (x 0) none;
-        faults = s.faults;
+        devices = record { faults = s.devices.faults; told = s.devices.told };
       };
   left = omega arith;
 } where
@@ -318,7 +347,12 @@ drop_takes m message end bad open_end met = record {
 pub writing_is_new : (writer : FileWriter) (sink : SinkSeen) → TookNothing sink.taken →
     FileWrote writer sink.taken sink.taken [] →
     IsNew writing (record { writer = writer; sink = sink; puts = Good; end = None })
-writing_is_new writer sink fresh wrote = record { fresh = fresh; wrote = wrote; met = refl; faults = refl }
+writing_is_new writer sink fresh wrote = record {
+  fresh = fresh;
+  wrote = wrote;
+  met = refl;
+  devices = record { faults = refl; told = λ is. is };
+}
 
 -- ---- from items to messages
 

@@ -1,6 +1,6 @@
 -- A machine that reads a file: how contracts see it, what it stands for, and what it means.
 -- Here all bytes that came are one list, and all items that were given; the code has one item ready at most.
-use Rattle.std.specs.Prelude.{◌≡◌, ◌≢◌, ℕ, ◌+◌, ◌-◌, List, [], ◌∷◌, ◌++◌, length, Bool, true, false, None}
+use Rattle.std.specs.Prelude.{◌≡◌, ◌≢◌, ℕ, ◌+◌, ◌-◌, ◌≤◌, List, [], ◌∷◌, ◌++◌, length, Bool, true, false, None}
 use Rattle.osm_entity.specs.Items.{ItemValue}
 use Rattle.osm_entity.specs.Machines.{Given, Meanings}
 use Rattle.osm_entity.specs.Ports.{fixed}
@@ -11,9 +11,9 @@ use Rattle.osm_entity.specs.declared.stream.Want.{Want}
 use Rattle.osm_entity.specs.declared.stream.Want.TheVariants.{Pull, Give, Ended}
 use Rattle.osm_entity.specs.declared.verdict.Verdict.{Verdict}
 use Rattle.osm_entity.specs.declared.verdict.Verdict.TheVariants.{Running, Clean, Passed, Input, TooLong, Read, Write, Memory}
-use Rattle.osm_host.specs.Counts.{Rises, raised}
+use Rattle.osm_host.specs.Counts.{raised}
 use Rattle.osm_host.specs.Feeds.{FaultsOfPull, reached_end}
-use Rattle.osm_host.specs.Pulls.{FeedValue}
+use Rattle.osm_host.specs.Pulls.{FeedValue, piece_size}
 use Rattle.osm_host.specs.declared.feed.Feed.{Feed}
 use Rattle.osm_host.specs.declared.feed.Feed.TheVariants.{Open, Ended as AtEnd, Failed, TooLong as PastLimit}
 use Rattle.osm_machine.specs.Devices.{SourceSeen, SourceStands}
@@ -115,12 +115,13 @@ pub record KeepsReading (reader : FileReader) (made : ℕ) (ready : Ready) : Typ
   pub wants : ready ≡ Nothing → FileWants reader
 
 -- a machine that reads got so far: its reader stands for what came, and for these items and the one that is ready, and
--- its source gave what came
+-- its source gave what came, which is at most a piece past the limit
 pub record HasRead (m : ReadingValue) (items : List ItemValue) (given : Given ReadingValue) : Type 0 where
   pub stands : FileStands m.reader given.bytes given.came (items ++ ready_items m.ready)
   pub over : given.over ≡ are_pulls_over (file_fed m.reader).feed
   pub source : SourceStands given.made.source m.source given.bytes given.came
   pub faults : FaultsOfPull (file_fed m.reader).feed given.made.source.value.faults m.source.value.faults
+  pub few : length given.bytes ≤ (file_fed m.reader).limit + piece_size
 
 -- a machine that reads stands for the messages that it gave, and for what came of its source
 pub record ReadingStands (m : ReadingValue) (y : List Message) (given : Given ReadingValue) : Type 0 where
@@ -129,14 +130,15 @@ pub record ReadingStands (m : ReadingValue) (y : List Message) (given : Given Re
   pub read : HasRead m items given
   pub ready : IsReady m.reader m.ready
 
--- its source gave these bytes, which its reader counts; it says whether their end came, and blames its source only where
--- a pull failed
+-- its source gave these bytes, at most a piece past the limit, and its reader counts them; it says whether their end came,
+-- the count of faults rose where a pull failed, and it blames its source only then
 pub record ReadingDevices (m : ReadingValue) (given : Given ReadingValue) : Type 0 where
   pub source : SourceStands given.made.source m.source given.bytes given.came
   pub counted : (file_fed m.reader).given ≡ raised 0 (length given.bytes)
+  pub few : length given.bytes ≤ (file_fed m.reader).limit + piece_size
   pub clean : given.came ≡ reached_end (file_fed m.reader).feed
-  pub blamed : reading_verdict (file_verdict m.reader) m.ready ≡ Read →
-      Rises given.made.source.value.faults m.source.value.faults
+  pub faults : FaultsOfPull (file_fed m.reader).feed given.made.source.value.faults m.source.value.faults
+  pub blamed : reading_verdict (file_verdict m.reader) m.ready ≡ Read → (file_fed m.reader).feed ≡ Failed
 
 -- what machines that read mean
 abbrev pub reading : Meanings ReadingValue

@@ -1,6 +1,8 @@
 -- What each kind of task means, and what its machine is made of.
 -- Here a kind is its row of the catalogue with its options; the code makes a machine of each.
-use Rattle.std.specs.Prelude.{◌≡◌, ℕ, ◌^◌, List, [], Bool, true, false, Option, Some, None, ⊤}
+use Prim.Native.Nat.{suc-le-suc, zero-le}
+use Rattle.std.specs.Prelude.{◌≡◌, ℕ, ◌^◌, min, max, List, [], Bool, true, false, Option, Some, None, ⊤}
+use Rattle.std.proofs.Math.Nat.{le-max_left, max-le, min-le_left}
 use Rattle.osm_entity.specs.Machines.{IsNew}
 use Rattle.osm_entity.specs.Meaning.{Finish, finish_after}
 use Rattle.osm_entity.specs.Streams.{Stream}
@@ -66,49 +68,52 @@ two_task rule finish turn = record {
 abbrev pub merge_task : Choice → TaskMeaning
 merge_task choose = two_task (merged choose) finish_merged merge_turn
 
--- the options of a PBF file are these
-pub record AreOptions (batchlimit : ℕ) (usedense omitmetadata : Bool) (granularity : ℕ) (options : PbfOptions) :
-    Type 0 where
-  pub batchlimit_is : options.batchlimit ≡ batchlimit
-  pub usedense_is : options.usedense ≡ usedense
-  pub omitmetadata_is : options.omitmetadata ≡ omitmetadata
-  pub granularity_is : options.granularity ≡ granularity
+-- the number of a range that is nearest to a number
+abbrev pub nearest : (least most n : ℕ) → ℕ
+nearest least most n = max least (min most n)
 
--- the task that writes a PBF file with these options
-pub record WritesPbf (batchlimit : ℕ) (usedense omitmetadata : Bool) (granularity : ℕ) (task : TaskMeaning) :
-    Type 0 where
-  pub options : PbfOptions
-  pub are : AreOptions batchlimit usedense omitmetadata granularity options
-  pub writes : task ≡ writer_task (PbfForm options)
+-- the options of a PBF file that are these, each number the nearest one of its range
+abbrev pub options_of : ℕ → Bool → Bool → ℕ → PbfOptions
+options_of batchlimit usedense omitmetadata granularity = record {
+  batchlimit = nearest 1 32000 batchlimit;
+  usedense = usedense;
+  omitmetadata = omitmetadata;
+  granularity = nearest 1 1000000 granularity;
+  some = le-max_left 1 (min 32000 batchlimit);
+  few = max-le (suc-le-suc zero-le) (min-le_left 32000 batchlimit);
+  fine = le-max_left 1 (min 1000000 granularity);
+  coarse = max-le (suc-le-suc zero-le) (min-le_left 1000000 granularity);
+}
 
--- a task means what its kind says, where that kind is built
-abbrev pub IsMeantBy : TaskKind → TaskMeaning → Type 0
-IsMeantBy (ReadPbf file) task = task ≡ reader_task PbfFile reading_limit
-IsMeantBy (ReadOpl file) task = task ≡ reader_task (OplFile Entities) reading_limit
-IsMeantBy (ReadOplChange file) task = task ≡ reader_task (OplFile Changes) reading_limit
-IsMeantBy ReadEmpty task = task ≡ empty_task
-IsMeantBy (ReadMade count seed) task = task ≡ made_task count seed
-IsMeantBy (WritePbf file batchlimit usedense omitmetadata granularity) task =
-    WritesPbf batchlimit usedense omitmetadata granularity task
-IsMeantBy (WriteOpl file) task = task ≡ writer_task OplForm
-IsMeantBy (WriteOplChange file) task = task ≡ writer_task OplForm
-IsMeantBy WriteNull task = task ≡ dropping_task
-IsMeantBy (WriteSummary file) task = task ≡ writer_task SummaryForm
-IsMeantBy (Merge resolution) task = task ≡ merge_task (chosen_by resolution)
-IsMeantBy (MergeChange resolution) task = task ≡ merge_task (chosen_by resolution)
-IsMeantBy AppendChange task = task ≡ two_task appended finish_appended appending.turn
-IsMeantBy ApplyChange task = task ≡ merge_task laid_over
-IsMeantBy SimplifyChange task = task ≡ rule_task true stream_simplified
-IsMeantBy (Tee flow outputs) task = task ≡ copying_task outputs
-IsMeantBy (Buffer flow capacity) task = task ≡ copying_task 1
-IsMeantBy (Spool flow) task = task ≡ copying_task 1
-IsMeantBy (TagFilter accept kind tests) task =
-    task ≡ rule_task false (filtered (record { accept = accept; kind = kind; tests = tests }))
-IsMeantBy UsedNode task = task ≡ rule_task true (used_only Node)
-IsMeantBy UsedWay task = task ≡ rule_task true (used_only Way)
-IsMeantBy Sort task = task ≡ rule_task true stream_sorted
-IsMeantBy SortChange task = task ≡ rule_task true stream_sorted
-IsMeantBy kind task = ⊥
+-- what a kind of task means, where it is built; the two that look at an area stand here as the task that gives its input
+abbrev pub kind_meaning : TaskKind → TaskMeaning
+kind_meaning (ReadPbf file) = reader_task PbfFile reading_limit
+kind_meaning (ReadOpl file) = reader_task (OplFile Entities) reading_limit
+kind_meaning (ReadOplChange file) = reader_task (OplFile Changes) reading_limit
+kind_meaning ReadEmpty = empty_task
+kind_meaning (ReadMade count seed) = made_task count seed
+kind_meaning (WritePbf file batchlimit usedense omitmetadata granularity) =
+    writer_task (PbfForm (options_of batchlimit usedense omitmetadata granularity))
+kind_meaning (WriteOpl file) = writer_task OplForm
+kind_meaning (WriteOplChange file) = writer_task OplForm
+kind_meaning WriteNull = dropping_task
+kind_meaning (WriteSummary file) = writer_task SummaryForm
+kind_meaning (Merge resolution) = merge_task (chosen_by resolution)
+kind_meaning (MergeChange resolution) = merge_task (chosen_by resolution)
+kind_meaning AppendChange = two_task appended finish_appended appending.turn
+kind_meaning ApplyChange = merge_task laid_over
+kind_meaning SimplifyChange = rule_task true stream_simplified
+kind_meaning (Tee flow outputs) = copying_task outputs
+kind_meaning (Buffer flow capacity) = copying_task 1
+kind_meaning (Spool flow) = copying_task 1
+kind_meaning (TagFilter accept kind tests) =
+    rule_task false (filtered (record { accept = accept; kind = kind; tests = tests }))
+kind_meaning UsedNode = rule_task true (used_only Node)
+kind_meaning UsedWay = rule_task true (used_only Way)
+kind_meaning Sort = rule_task true stream_sorted
+kind_meaning SortChange = rule_task true stream_sorted
+kind_meaning (BoundingBox left right top bottom options) = copying_task 1
+kind_meaning (BoundingPolygon file options) = copying_task 1
 
 -- whether tasks of a kind are built
 abbrev pub is_kind_built : TaskKind → Bool
@@ -138,9 +143,6 @@ pub record IsMachine {S K : Type 0} (task : TaskMeaning) (source : Option Source
   pub source_is : source_of m ≡ source
   pub sink_is : sink_of m ≡ sink
 
--- a machine of a kind of task is new, its task means what the kind says, and it has these devices
-pub record IsMachineOf {S K : Type 0} (kind : TaskKind) (source : Option SourceSeen) (sink : Option SinkSeen)
-    (m : MachineKind S K) : Type 0 where
-  pub task : TaskMeaning
-  pub meant : IsMeantBy kind task
-  pub machine : IsMachine task source sink m
+-- a machine of a kind of task is new, its task is what the kind means, and it has these devices
+abbrev pub IsMachineOf : {S K : Type 0} → TaskKind → Option SourceSeen → Option SinkSeen → MachineKind S K → Type 0
+IsMachineOf kind source sink m = IsMachine (kind_meaning kind) source sink m

@@ -1,6 +1,6 @@
 -- A machine that writes a file: how contracts see it, what it stands for, and what it means.
 -- Here all that it took is one list; the code keeps none of it but what the open run of a file needs.
-use Rattle.std.specs.Prelude.{◌≡◌, ℕ, List, Option, Some, None}
+use Rattle.std.specs.Prelude.{◌≡◌, ℕ, List, Option, Some, None, IsSome}
 use Rattle.std.specs.Io.KnownBytes.{append_known}
 use Rattle.osm_entity.specs.Machines.{Given, Meanings, WrotePrefix}
 use Rattle.osm_entity.specs.Meaning.{finish_after}
@@ -42,12 +42,17 @@ WroteBy Good end writer first now x = HasWritten end writer first now x
 WroteBy Refused end writer first now x = WrotePrefix now (text_taken writer x)
 WroteBy Stopped end writer first now x = ⊥
 
+-- the count of its sink's faults rose where a put failed, and a sink that told what it took still does
+pub record WritingDevices (m : WritingValue) (given : Given WritingValue) : Type 0 where
+  pub faults : FaultsOfPuts m.puts given.made.sink.faults m.sink.faults
+  pub told : IsSome given.made.sink.taken → IsSome m.sink.taken
+
 -- a machine that writes stands for the messages that it took: its sink, which had taken nothing, took what is written
 pub record WritingStands (m : WritingValue) (x : List Message) (given : Given WritingValue) : Type 0 where
   pub fresh : TookNothing given.made.sink.taken
   pub wrote : WroteBy m.puts m.end m.writer given.made.sink.taken m.sink.taken x
   pub met : m.end ≡ end_taken x
-  pub faults : FaultsOfPuts m.puts given.made.sink.faults m.sink.faults
+  pub devices : WritingDevices m given
 
 -- it takes until the end came
 abbrev pub writing_wants : Option End → Want
@@ -70,6 +75,6 @@ writing = record {
   wanted = λ m. writing_wants m.end;
   verdict = λ m. writing_verdict m.puts m.end;
   wrote = λ m. m.sink.taken;
-  devices = λ m given. FaultsOfPuts m.puts given.made.sink.faults m.sink.faults;
+  devices = WritingDevices;
   left = λ m. 0;
 }

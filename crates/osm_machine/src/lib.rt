@@ -25,7 +25,10 @@ mod ready;
 mod writer;
 mod writing;
 
-pub use laws::{machines_are_lawful, machines_tell_of_their_devices};
+pub use laws::{
+    machines_are_lawful, machines_tell_of_their_devices, pulling_machines_have_a_source,
+    tasks_read_few_bytes,
+};
 pub use machine::{Machine, Parts};
 pub use machine_making::{is_built, make};
 pub use machines::Machines;

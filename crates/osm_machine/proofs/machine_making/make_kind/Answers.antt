@@ -1,4 +1,4 @@
-use Rattle.std.proofs.Common.{ap, refl, false, true, ◌∙◌}
+use Rattle.std.proofs.Common.{ap, refl, sym, false, true, ◌∙◌}
 use Rattle.std.proofs.lemmas.Result.{IfOk-weaker}
 use Rattle.osm_entity.specs.OneInput.{meanings_of}
 use Rattle.osm_entity.specs.declared.kind.Kind.TheVariants.{Node, Way}
@@ -21,10 +21,11 @@ use Rattle.osm_machine.specs.Emptying.{dropping, dropping_task, empty_task, empt
 use Rattle.osm_machine.specs.Making.{made_task, making}
 use Rattle.osm_machine.specs.TaskMeanings.{merge_task, rule_task}
 use Rattle.osm_machine.specs.Writers.{form_of}
-use Rattle.osm_machine.specs.Written.{writer_task}
+use Rattle.osm_machine.specs.Written.{PbfForm, writer_task}
 use Rattle.osm_machine.specs.declared.kind.MachineKind.TheVariants.{Appends, Applies, Copies, Drops, Filters, Make, Merges, Nothing, Simplifies, Sorts, UsesNodes, UsesWays}
 use Rattle.osm_machine.proofs.MachineParts.{appends_part, applies_part, copies_part, drops_part, filters_part, make_part, merges_part, simplifies_part, nothing_part, sorts_part, uses_nodes_part, uses_ways_part}
 use Rattle.osm_machine.proofs.MakingMachines.{made_without, made_writer}
+use Rattle.osm_machine.proofs.OptionLemmas.{options_of-itself}
 use Rattle.osm_machine.proofs.machine_making.make_kind.Goals as goal
 
 pub returns-in-ReadEmpty : goal.returns-in-ReadEmpty
@@ -40,11 +41,17 @@ returns-in_ok-pbf-in-WritePbf g c =
     let form = c.in_ok-pbf-in-WritePbf.ensures.form in
     IfOk-weaker c.write.result _ _
     (λ m made. made_writer c.args.kind.now _ c.in-WritePbf.is c.args.source _ c.args.sink _ _ m
-    (writer_task (form_of c.in_ok-pbf-in-WritePbf.field-0)) refl c.requires.source (record {
-      options = _;
-      are = record { batchlimit_is = refl; usedense_is = refl; omitmetadata_is = refl; granularity_is = refl };
-      writes = ap writer_task form;
-    }) made) c.write.ensures
+    (writer_task (form_of c.in_ok-pbf-in-WritePbf.field-0)) refl c.requires.source
+    (ap (λ options. writer_task (PbfForm options)) (options_of-itself (record {
+      batchlimit = c.in-WritePbf.batchlimit;
+      usedense = c.in-WritePbf.usedense;
+      omitmetadata = c.in-WritePbf.omitmetadata;
+      granularity = c.in-WritePbf.granularity;
+      some = _;
+      few = _;
+      fine = _;
+      coarse = _;
+    })) ∙ sym (ap writer_task form)) made) c.write.ensures
 
 pub returns-in-WriteNull : goal.returns-in-WriteNull
 returns-in-WriteNull g c = made_without c.args.kind.now _ c.in-WriteNull.is c.args.source _ c.args.sink _ _ _ dropping Drops drops_part
