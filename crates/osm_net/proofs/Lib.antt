@@ -1,8 +1,14 @@
+pub mod AloneLemmas
+pub mod CallLemmas
 pub mod CountLemmas
 pub mod MeaningLemmas
 pub mod MeasureLemmas
 pub mod MoveLemmas
+pub mod NetLemmas
 pub mod ProgressLemmas
+pub mod RanLemmas
 pub mod RunLemmas
+pub mod StepLemmas
 pub mod SumLemmas
+pub mod TableLemmas
 pub mod WaitLemmas

@@ -1,6 +1,5 @@
 -- Each move leaves a network less to do.
-use Rattle.std.proofs.Common.{◌≡◌, ℕ, zero, suc, ◌<◌, ◌≤◌, ◌+◌, ◌*◌, ◌-◌, inl, inr, List, [], ◌∷◌, ◌++◌, length, refl, sym, ap, subst, ◌∙◌, arith}
-use Rattle.std.specs.Prelude.{◌≢◌}
+use Rattle.std.proofs.Common.{◌≡◌, ℕ, zero, suc, ◌<◌, ◌≤◌, ◌+◌, ◌*◌, ◌-◌, List, [], ◌∷◌, ◌++◌, length, sym, ap, subst, ◌∙◌, arith}
 use Rattle.std.proofs.Math.Nat.{add-mul, mul-le-mul_right}
 use Rattle.std.proofs.lemmas.List.{length-append}
 use Rattle.osm_entity.specs.Calls.{Gives, Pulls, Takes}
@@ -8,7 +7,6 @@ use Rattle.osm_entity.specs.Machines.{Meanings}
 use Rattle.osm_entity.specs.declared.stream.Message.{Message}
 use Rattle.osm_graph.specs.Pipes.{pipe_of}
 use Rattle.osm_graph.specs.declared.pipe.Pipe.{Pipe}
-use Rattle.osm_net.specs.Meaning.{sum_below}
 use Rattle.osm_net.specs.Measure.{net_weight, step_weight}
 use Rattle.osm_net.specs.Nets.{IsGraphOf, Others}
 use Rattle.osm_net.proofs.RunLemmas.{from_known}

@@ -16,7 +16,7 @@ use Rattle.osm_graph.specs.declared.pipe.Store.{Store}
 use Rattle.osm_graph.specs.declared.pipe.Store.TheVariants.{Bounded, Spool}
 use Rattle.osm_net.specs.Histories.{History, Took, Gave, Pulled, messages_taken, took_by, gave_by, new_history, with_move}
 use Rattle.osm_net.specs.Meaning.{at_pipe}
-use Rattle.osm_net.specs.Nets.{AreStanding, FitsStore, HasRoom, IsGraphOf, NetStands, Others}
+use Rattle.osm_net.specs.Nets.{FitsStore, HasRoom, IsGraphOf, IsOrderly, NetStands, Others}
 use Rattle.osm_net.specs.Runs.{AreTasks}
 use Rattle.osm_net.proofs.MeaningLemmas.{into_is, out_is}
 use Rattle.osm_net.proofs.RunLemmas.{from_known}
@@ -138,6 +138,74 @@ module _ {M : Type 0} (h : History M) (pipe : ℕ) where
   gave_here : (m : Message) → (with_move h (Gave pipe m)).sent pipe ≡ h.sent pipe ++ m ∷ []
   gave_here m = cond-true (pipe == pipe) (h.sent pipe ++ m ∷ []) (h.sent pipe) (eq-eqb pipe pipe refl)
 
+-- this holds of each task, with what it took and gave and what came of its source
+abbrev pub AllHold : {M : Type 0} → (ℕ → Ports → Ports → Given M → Type 0) → ℕ → List Pipe → History M → Type 0
+AllHold P tasks pipes h = (t : ℕ) → t < tasks → P t (took_by pipes h t) (gave_by pipes h t) (h.given t)
+
+-- what holds of each task once a message was taken, by what it is for the taker and for the others
+pub took_holds : {M : Type 0} (P Q : ℕ → Ports → Ports → Given M → Type 0) (tasks : ℕ) (inputs outputs : ℕ → ℕ)
+    (pipes : List Pipe) (h : History M) (pipe : ℕ) (m : Message) (rest : List Message) →
+    IsWholeGraph tasks inputs outputs pipes → pipe < length pipes → drop (h.taken pipe) (h.sent pipe) ≡ m ∷ rest →
+    ((x y : Ports) (given : Given M) → P (pipe_of pipes pipe).to x y given →
+    Q (pipe_of pipes pipe).to (added x (pipe_of pipes pipe).to_port m) y given) →
+    ((t : ℕ) → t < tasks → t ≢ (pipe_of pipes pipe).to → (x y : Ports) (given : Given M) → P t x y given → Q t x y
+    given) →
+    AllHold P tasks pipes h → AllHold Q tasks pipes (with_move h (Took pipe))
+took_holds {M} P Q tasks inputs outputs pipes h pipe m rest graph known held taker others all t there =
+    let to : ℕ = (pipe_of pipes pipe).to in
+    let port : ℕ = (pipe_of pipes pipe).to_port in
+    let then : History M = with_move h (Took pipe) in
+    let gains : took_by pipes then to ≡ added (took_by pipes h to) port m =
+    port_gains (pipe_into pipes to) (messages_taken then) (messages_taken h) pipe port m (graph.alone_into pipe known)
+    (λ q p at same. sym (into_is pipes to q p at).port_is ∙ ap (λ k. (pipe_of pipes k).to_port) same)
+    (took_there h pipe) (took_here h pipe m rest held) in
+    elim (cases_eq t to) [
+      | inl same ↦ subst (λ k. Q k (took_by pipes then k) (gave_by pipes h k) (h.given k)) (sym same)
+          (subst (λ x. Q to x (gave_by pipes h to) (h.given to)) (sym gains)
+          (taker (took_by pipes h to) (gave_by pipes h to) (h.given to) (all to (graph.known pipe known))))
+      | inr not ↦ subst (λ x. Q t x (gave_by pipes h t) (h.given t))
+          (sym (fun_ext (λ q. same_but (messages_taken then) (messages_taken h) pipe (pipe_into pipes t q)
+          (took_there h pipe)
+          (λ p at same. not (sym (into_is pipes t q p at).task_is ∙ ap (λ k. (pipe_of pipes k).to) same)))))
+          (others t there not (took_by pipes h t) (gave_by pipes h t) (h.given t) (all t there))
+    ]
+
+-- and once a piece was pulled
+pub pulled_holds : {M : Type 0} (P Q : ℕ → Ports → Ports → Given M → Type 0) (tasks : ℕ) (pipes : List Pipe)
+    (h : History M)
+    (task limit : ℕ) (piece : List ℕ) (came : Bool) →
+    ((x y : Ports) (given : Given M) → P task x y given → Q task x y (with_piece limit piece came given)) →
+    ((t : ℕ) → t < tasks → t ≢ task → (x y : Ports) (given : Given M) → P t x y given → Q t x y given) →
+    AllHold P tasks pipes h → AllHold Q tasks pipes (with_move h (Pulled task limit piece came))
+pulled_holds {M} P Q tasks pipes h task limit piece came puller others all t there = elim (cases_eq t task) [
+  | inl same ↦ subst (Q t (took_by pipes h t) (gave_by pipes h t))
+      (sym (cond-true (t == task) (with_piece limit piece came (h.given t)) (h.given t) (eq-eqb t task same)))
+      (subst (λ k. Q k (took_by pipes h k) (gave_by pipes h k) (with_piece limit piece came (h.given k))) (sym same)
+      (puller (took_by pipes h task) (gave_by pipes h task) (h.given task)
+      (all task (subst (λ k. k < tasks) same there))))
+  | inr not ↦ subst (Q t (took_by pipes h t) (gave_by pipes h t))
+      (sym (cond-false (t == task) (with_piece limit piece came (h.given t)) (h.given t) (ne_eqb t task not)))
+      (others t there not (took_by pipes h t) (gave_by pipes h t) (h.given t) (all t there))
+]
+
+-- a history stays in order where the next message of a pipe is taken
+pub took_order : {M : Type 0} (pipes : List Pipe) (h : History M) (pipe : ℕ) (m : Message) (rest : List Message) →
+    drop (h.taken pipe) (h.sent pipe) ≡ m ∷ rest → IsOrderly pipes h → IsOrderly pipes (with_move h (Took pipe))
+took_order {M} pipes h pipe m rest held order =
+    let then : History M = with_move h (Took pipe) in
+    let next : IsNext (h.taken pipe) (h.sent pipe) m rest = is_next (h.taken pipe) (h.sent pipe) m rest held in
+    let more : then.taken pipe ≡ h.taken pipe + 1 =
+    cond-true (pipe == pipe) (h.taken pipe + 1) (h.taken pipe) (eq-eqb pipe pipe refl) in
+    let still : (p : ℕ) → p ≢ pipe → then.taken p ≡ h.taken p =
+    λ p not. cond-false (p == pipe) (h.taken p + 1) (h.taken p) (ne_eqb p pipe not) in
+    record {
+      within = λ p there. elim (cases_eq p pipe) [
+        | inl same ↦ subst (λ k. then.taken k ≤ length (h.sent k)) (sym same) (omega (arith, more, next.below))
+        | inr not ↦ omega (arith, still p not, order.within p there)
+      ];
+      ends = order.ends;
+    }
+
 -- a task that takes the next message of a pipe into it
 pub took_keeps : {M : Type 0} (of : Meanings M) (tasks : ℕ) (pipes : List Pipe) (machine now : ℕ → M)
     (queue left : ℕ → List Message) (h : History M) (pipe : ℕ) (m : Message) → IsGraphOf of tasks machine pipes →
@@ -147,7 +215,6 @@ pub took_keeps : {M : Type 0} (of : Meanings M) (tasks : ℕ) (pipes : List Pipe
     NetStands of tasks pipes machine queue h → NetStands of tasks pipes now left (with_move h (Took pipe))
 took_keeps {M} of tasks pipes machine now queue left h pipe m graph known elsewhere first others takes net =
     let to : ℕ = (pipe_of pipes pipe).to in
-    let port : ℕ = (pipe_of pipes pipe).to_port in
     let then : History M = with_move h (Took pipe) in
     let held : drop (h.taken pipe) (h.sent pipe) ≡ m ∷ left pipe = sym (net.queued pipe known) ∙ first in
     let next : IsNext (h.taken pipe) (h.sent pipe) m (left pipe) =
@@ -156,33 +223,15 @@ took_keeps {M} of tasks pipes machine now queue left h pipe m graph known elsewh
     cond-true (pipe == pipe) (h.taken pipe + 1) (h.taken pipe) (eq-eqb pipe pipe refl) in
     let still : (p : ℕ) → p ≢ pipe → then.taken p ≡ h.taken p =
     λ p not. cond-false (p == pipe) (h.taken p + 1) (h.taken p) (ne_eqb p pipe not) in
-    let gains : took_by pipes then to ≡ added (took_by pipes h to) port m =
-    port_gains (pipe_into pipes to) (messages_taken then) (messages_taken h) pipe port m (graph.alone_into pipe known)
-    (λ q p at same. sym (into_is pipes to q p at).port_is ∙ ap (λ k. (pipe_of pipes k).to_port) same)
-    (took_there h pipe) (took_here h pipe m (left pipe) held) in
     record {
       machines = record {
-        order = record {
-          within = λ p there. elim (cases_eq p pipe) [
-            | inl same ↦ subst (λ k. then.taken k ≤ length (h.sent k)) (sym same) (omega (arith, more, next.below))
-            | inr not ↦ omega (arith, still p not, net.machines.order.within p there)
-          ];
-          ends = net.machines.order.ends;
-        };
-        stand = λ t there. elim (cases_eq t to) [
-          | inl same ↦
-              subst (λ k. StandsFor of (now k) (took_by pipes then k) (gave_by pipes h k) (h.given k)) (sym same)
-              (subst (λ x. StandsFor of (now to) x (gave_by pipes h to) (h.given to)) (sym gains)
-              (takes.stands (took_by pipes h to) (gave_by pipes h to) (h.given to)
-              (net.machines.stand to (graph.known pipe known))))
-          | inr not ↦
-              subst (λ n. StandsFor of n (took_by pipes then t) (gave_by pipes h t) (h.given t)) (sym (others t not))
-              (subst (λ x. StandsFor of (machine t) x (gave_by pipes h t) (h.given t))
-              (sym (fun_ext (λ q. same_but (messages_taken then) (messages_taken h) pipe (pipe_into pipes t q)
-              (took_there h pipe)
-              (λ p at same. not (sym (into_is pipes t q p at).task_is ∙ ap (λ k. (pipe_of pipes k).to) same)))))
-              (net.machines.stand t there))
-        ];
+        order = took_order pipes h pipe m (left pipe) held net.machines.order;
+        stand = took_holds (λ t. StandsFor of (machine t)) (λ t. StandsFor of (now t)) tasks
+            (λ t. (of.task (machine t)).inputs) (λ t. (of.task (machine t)).outputs) pipes h pipe m (left pipe) graph
+            known
+            held takes.stands
+            (λ t there not x y given stood. subst (λ n. StandsFor of n x y given) (sym (others t not)) stood)
+            net.machines.stand;
       };
       queued = λ p there. elim (cases_eq p pipe) [
         | inl same ↦ subst (λ k. left k ≡ drop (then.taken k) (h.sent k)) (sym same)
@@ -295,24 +344,14 @@ pub pulled_keeps : {M : Type 0} (of : Meanings M) (tasks : ℕ) (pipes : List Pi
     (queue : ℕ → List Message) (h : History M) (task : ℕ) → task < tasks → Others task machine now →
     (pulls : Pulls of (machine task) (now task)) → NetStands of tasks pipes machine queue h →
     NetStands of tasks pipes now queue (with_move h (Pulled task (of.task (machine task)).limit pulls.piece pulls.came))
-pulled_keeps {M} of tasks pipes machine now queue h task known others pulls net = record {
+pulled_keeps of tasks pipes machine now queue h task known others pulls net = record {
   machines = record {
     order = record { within = net.machines.order.within; ends = net.machines.order.ends };
-    stand = λ t there. elim (cases_eq t task) [
-      | inl same ↦ subst (λ k. StandsFor of (now k) (took_by pipes h k) (gave_by pipes h k) (later k)) (sym same)
-          (subst (StandsFor of (now task) (took_by pipes h task) (gave_by pipes h task))
-          (sym (cond-true (task == task) (pulled task) (h.given task) (eq-eqb task task refl)))
-          (pulls.stands (took_by pipes h task) (gave_by pipes h task) (h.given task) (net.machines.stand task known)))
-      | inr not ↦ subst (λ n. StandsFor of n (took_by pipes h t) (gave_by pipes h t) (later t)) (sym (others t not))
-          (subst (StandsFor of (machine t) (took_by pipes h t) (gave_by pipes h t))
-          (sym (cond-false (t == task) (pulled t) (h.given t) (ne_eqb t task not))) (net.machines.stand t there))
-    ];
+    stand = pulled_holds (λ t. StandsFor of (machine t)) (λ t. StandsFor of (now t)) tasks pipes h task
+        (of.task (machine task)).limit pulls.piece pulls.came pulls.stands
+        (λ t there not x y given stood. subst (λ n. StandsFor of n x y given) (sym (others t not)) stood)
+        net.machines.stand;
   };
   queued = net.queued;
   fits = net.fits;
-} where
-  pulled : ℕ → Given M
-  pulled t = with_piece (of.task (machine task)).limit pulls.piece pulls.came (h.given t)
-
-  later : ℕ → Given M
-  later t = cond (t == task) (pulled t) (h.given t)
+}

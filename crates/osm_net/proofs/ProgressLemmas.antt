@@ -11,14 +11,14 @@ use Rattle.osm_graph.specs.Pipes.{pipe_of, pipe_into, pipe_out}
 use Rattle.osm_graph.specs.declared.pipe.Pipe.{Pipe}
 use Rattle.osm_graph.specs.declared.pipe.Store.{Store}
 use Rattle.osm_graph.specs.declared.pipe.Store.TheVariants.{Bounded, Spool}
-use Rattle.osm_circle.specs.Circles.{IsBareCircle, is_spool, sense_start, sense_end}
+use Rattle.osm_circle.specs.Circles.{is_spool, sense_start, sense_end}
 use Rattle.osm_circle.specs.Search.{IsUsable}
 use Rattle.osm_circle.specs.declared.circle.Sense.{Sense}
 use Rattle.osm_net.specs.Histories.{History, messages_taken, took_by, gave_by}
 use Rattle.osm_net.specs.Meaning.{at_pipe}
 use Rattle.osm_net.specs.Nets.{AllEnded, CanHold, CanMove, HasNoBareCircle, HasRoom, IsGraphOf, NetStands, SomeCanMove}
 use Rattle.osm_net.proofs.MeaningLemmas.{IsThere, into_is, out_is}
-use Rattle.osm_net.proofs.RunLemmas.{all_by_end, end_kept, from_known}
+use Rattle.osm_net.proofs.RunLemmas.{all_by_end, from_known}
 use Rattle.osm_net.proofs.WaitLemmas.{AreWaiting, circle_waits}
 
 -- ---- tests of a state

@@ -1,26 +1,23 @@
 -- Machines that stand for a history did what is before the meaning of their graph, and at their end all of it.
-use Rattle.std.proofs.Common.{◌≡◌, ℕ, zero, suc, ◌<◌, ◌≤◌, ◌+◌, List, [], ◌∷◌, length, take, Bool, true, false, Option, Some, None, refl, sym, ap, subst, ◌∙◌, arith}
-use Rattle.std.specs.Prelude.{◌≢◌}
+use Rattle.std.proofs.Common.{◌≡◌, ℕ, zero, suc, ◌<◌, ◌≤◌, ◌+◌, List, [], ◌∷◌, length, take, true, false, Option, Some, None, refl, sym, ap, subst, ◌∙◌, arith}
 use Rattle.std.proofs.Math.Path.{fun_ext}
 use Rattle.std.proofs.Math.Seq.{take-length}
-use Rattle.osm_entity.specs.Machines.{Meanings, Given, AreLawful, HasEnded, IsBehind, MayWant, StandsFor, WroteAll, WrotePrefix, meant_at}
-use Rattle.osm_entity.specs.Ports.{AreBefore, EndsLast, Ports, fixed, has_end, stream_of, streams}
+use Rattle.osm_entity.specs.Machines.{Meanings, AreLawful, HasEnded, MayWant, WroteAll, WrotePrefix}
+use Rattle.osm_entity.specs.Ports.{AreBefore, EndsLast, fixed, has_end, stream_of, streams}
 use Rattle.osm_entity.specs.Prefixes.{IsPrefix}
 use Rattle.osm_entity.specs.Streams.{Stream, IsBefore}
-use Rattle.osm_entity.specs.Tasks.{IsOnward, TaskMeaning, verdict_as}
+use Rattle.osm_entity.specs.Tasks.{verdict_as}
 use Rattle.osm_entity.specs.declared.stream.Message.{Message}
 use Rattle.osm_entity.specs.declared.stream.Message.TheVariants.{Item as One, End as Last}
-use Rattle.osm_entity.specs.declared.stream.Want.TheVariants.{Ended}
-use Rattle.osm_entity.specs.declared.verdict.Verdict.TheVariants.{Write}
 use Rattle.osm_entity.proofs.PortLemmas.{fixed_all, prefix_before}
 use Rattle.osm_entity.proofs.PrefixLemmas.{prefix_onward, prefix_take}
 use Rattle.osm_entity.proofs.StreamLemmas.{before_itself, before_onward}
-use Rattle.osm_graph.specs.Pipes.{IsWholeGraph, pipe_of, pipe_into, pipe_out}
+use Rattle.osm_graph.specs.Pipes.{IsWholeGraph, pipe_of, pipe_into}
 use Rattle.osm_graph.specs.declared.pipe.Pipe.{Pipe}
 use Rattle.osm_net.specs.Histories.{History, messages_taken, took_by, gave_by, streams_taken}
-use Rattle.osm_net.specs.Meaning.{no_stream, at_pipe, streams_into, Rules, rules_of, stream_put, IsMeaning, bytes_written, verdict_by}
+use Rattle.osm_net.specs.Meaning.{no_stream, at_pipe, streams_into, rules_of, stream_put, bytes_written}
 use Rattle.osm_net.specs.Nets.{AllEnded, AreBehind, AreStanding, IsGraphOf}
-use Rattle.osm_net.specs.Runs.{course_of, IsMeant, IsAsMeant, IsBeforeMeant, IsRunOf, IsRunSoFar, IsWholeRun}
+use Rattle.osm_net.specs.Runs.{course_of, IsMeant, IsRunOf, IsRunSoFar, IsWholeRun}
 use Rattle.osm_net.proofs.MeaningLemmas.{into_is, inputs_alike, one_meaning}
 
 stream_at : (lists : ℕ → List Message) (o : Option ℕ) →

@@ -10,7 +10,6 @@ use Rattle.osm_circle.specs.Circles.{IsBareCircle, IsWalk, sense_start, sense_en
 use Rattle.osm_circle.specs.Search.{IsForward, IsRing, IsUsable}
 use Rattle.osm_circle.specs.declared.circle.Sense.{Sense}
 use Rattle.osm_circle.proofs.RingLemmas.{bare_circle}
-use Rattle.osm_graph.specs.Pipes.{pipe_of}
 use Rattle.osm_graph.specs.declared.pipe.Pipe.{Pipe}
 
 -- each task that waits starts a sense, over a pipe that no other waits at from another end, to a task that waits too

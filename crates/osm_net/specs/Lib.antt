@@ -2,5 +2,9 @@ pub mod Histories
 pub mod Meaning
 pub mod Measure
 pub mod Nets
+pub mod NetLists
+pub mod Networks
+pub mod PortTables
 pub mod Queues
 pub mod Runs
+pub mod SourceNames

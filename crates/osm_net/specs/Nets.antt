@@ -25,8 +25,7 @@ pub record IsOrderly {M : Type 0} (pipes : List Pipe) (h : History M) : Type 0 w
   pub ends : (p : ℕ) → p < length pipes → EndsLast (h.sent p)
 
 -- the machines stand for a history: it is in order, and each machine stands for what its task took and gave and for
--- what
--- came of its source
+-- what came of its source
 pub record AreStanding {M : Type 0} (of : Meanings M) (tasks : ℕ) (pipes : List Pipe) (machine : ℕ → M)
     (h : History M) : Type 0 where
   pub order : IsOrderly pipes h

@@ -1,6 +1,6 @@
 -- Queues as contracts see them.
 -- Here a queue is the list of its messages and its store; the code has them in a ring.
-use Rattle.std.specs.Prelude.{ℕ, ◌≡◌, ◌≤◌, List, length, Bool, true, false, nat_le, ⊤}
+use Rattle.std.specs.Prelude.{ℕ, ◌≤◌, List, length, Bool, true, false, nat_le, ⊤}
 use Rattle.osm_entity.specs.declared.stream.Message.{Message}
 use Rattle.osm_graph.specs.declared.pipe.Store.{Store}
 use Rattle.osm_graph.specs.declared.pipe.Store.TheVariants.{Bounded, Spool}

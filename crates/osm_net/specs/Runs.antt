@@ -1,13 +1,13 @@
 -- What a run of machines over a graph promises, whoever runs them.
 -- Here a run is told by its history; neither its order nor its queues are in it.
-use Rattle.std.specs.Prelude.{◌≡◌, ◌≢◌, ℕ, ◌<◌, List, length, get_or, Bool, true, false}
+use Rattle.std.specs.Prelude.{◌≡◌, ◌≢◌, ℕ, ◌<◌, ◌≤◌, ◌+◌, ◌*◌, List, length, get_or, Bool, true, false}
 use Rattle.osm_entity.specs.Machines.{Meanings, IsNew, IsSameTask, WrotePrefix, WroteAll}
 use Rattle.osm_entity.specs.Ports.{fixed, stream_of, AreBefore}
 use Rattle.osm_entity.specs.Streams.{Stream, IsBefore}
 use Rattle.osm_entity.specs.declared.verdict.Verdict.TheVariants.{Write}
 use Rattle.osm_graph.specs.declared.pipe.Pipe.{Pipe}
-use Rattle.osm_net.specs.Histories.{History, messages_taken, streams_taken}
-use Rattle.osm_net.specs.Meaning.{TaskCourse, Rules, IsMeaning, rules_of, streams_into, bytes_written, verdict_by}
+use Rattle.osm_net.specs.Histories.{History, messages_taken, most_pulls, streams_taken}
+use Rattle.osm_net.specs.Meaning.{TaskCourse, IsMeaning, messages_in, rules_of, streams_into, bytes_written, verdict_by}
 use Rattle.osm_net.specs.Nets.{AllEnded, AreStanding, IsGraphOf}
 
 -- the machines of a graph are new: each stands for no message and no byte
@@ -51,8 +51,7 @@ pub record IsRunSoFar {M : Type 0} (of : Meanings M) (tasks : ℕ) (pipes : List
       WrotePrefix (of.wrote (machine t)) (bytes_written pipes (of.task (machine t)) streams t)
 
 -- what a run leaves, by its history: all is before what is meant; unless it was out of memory all tasks have ended,
--- they
--- stand for all that was sent, and all is as meant
+-- they stand for all that was sent, and all is as meant
 pub record IsRunOf {M : Type 0} (of : Meanings M) (tasks : ℕ) (pipes : List Pipe) (machine : ℕ → M) (memory : Bool)
     (h : History M) : Type 0 where
   pub so_far : (streams : ℕ → Stream) → IsMeant of pipes machine h streams → IsRunSoFar of tasks pipes machine h streams
@@ -64,11 +63,32 @@ pub record IsRunOf {M : Type 0} (of : Meanings M) (tasks : ℕ) (pipes : List Pi
       (streams : ℕ → Stream) → IsMeant of pipes machine h streams → IsWholeRun of tasks pipes machine h streams
 
 -- what a run promises of machines before and after it: as many, of the same tasks, and a history from the machines as
--- they were made to what the run leaves
+-- they were made to what the run leaves; what is at no task is free
 pub record AreRun {M : Type 0} (of : Meanings M) (pipes : List Pipe) (before after : List M) (memory : Bool) : Type 0
   where
     pub count : length after ≡ length before
     pub same : (t : ℕ) (d : M) → t < length before → IsSameTask of (get_or before t d) (get_or after t d)
-    pub history : History M
-    pub made : (t : ℕ) (d : M) → t < length before → (history.given t).made ≡ get_or before t d
-    pub run : (d : M) → IsRunOf of (length before) pipes (λ t. get_or after t d) memory history
+    pub history : M → History M
+    pub made : (t : ℕ) (d : M) → t < length before → ((history d).given t).made ≡ get_or before t d
+    pub run : (d : M) → IsRunOf of (length before) pipes (λ t. get_or after t d) memory (history d)
+
+-- what a run on one thread promises also of its steps, one for each message that is sent or taken and for each pull:
+-- two for each message that is meant, and the pulls, which are no more than one for each byte that came and one more
+-- for each task that reads; out of memory there may be fewer
+pub record AreCountedRun {M : Type 0} (of : Meanings M) (reads : M → Bool) (pipes : List Pipe) (before after : List M)
+    (memory : Bool) (steps : ℕ) : Type 0 where
+  pub run : AreRun of pipes before after memory
+  pub most : (d : M) (streams : ℕ → Stream) → IsMeant of pipes (λ t. get_or after t d) (run.history d) streams →
+      steps ≤ 2 * messages_in pipes streams
+      + most_pulls (length before) (λ t. reads (get_or before t d)) (run.history d)
+  pub least : memory ≡ false → (d : M) (streams : ℕ → Stream) →
+      IsMeant of pipes (λ t. get_or after t d) (run.history d) streams → 2 * messages_in pipes streams ≤ steps
+
+-- the machines of a list are new, and those of a graph's tasks
+abbrev pub AreNewMachines : {M : Type 0} → Meanings M → List Pipe → List M → Type 0
+AreNewMachines of pipes machines = (d : _) → AreTasks of (length machines) pipes (λ t. get_or machines t d)
+
+-- each machine of a list has the name that it had
+abbrev pub KeepNames : {M N : Type 0} → (M → N) → (before after : List M) → Type 0
+KeepNames names before after =
+    (t : ℕ) (d : _) → t < length before → names (get_or after t d) ≡ names (get_or before t d)
