@@ -1,5 +1,5 @@
 //! Whether the tags of an entity match what a filter looks for. Nothing here takes memory.
-ghost use Rattle.std.specs.Prelude.{◌≡◌, ◌↔◌, ◌==◌, IsTrue, bytes_eq};
+ghost use Rattle.std.specs.Prelude.{◌≡◌, ◌==◌, bytes_eq};
 ghost use Rattle.std.specs.List.{list_any};
 ghost use Rattle.osm_entity.specs.Items.{kind_of};
 ghost use Rattle.osm_entity.specs.Keys.{kind_rank};
@@ -28,16 +28,10 @@ fn is_wanted(values: &Option<Texts>, value: &Text) -> bool
     }
 }
 
-fn is_of_bytes(text: &Text, bytes: &[u8]) -> bool
-    ensures { IsTrue result ↔ (text.now ≡ bytes.now) }
-{
-    text.as_slice() == bytes
-}
-
 fn has_bytes(text: &Text, bytes: &[u8]) -> bool
     ensures { result ≡ bytes_eq text.now bytes.now }
 {
-    is_of_bytes(text, bytes)
+    text.as_slice() == bytes
 }
 
 // The test's key is taken apart once for all tags: most of them have another one.
