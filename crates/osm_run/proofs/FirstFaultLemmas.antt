@@ -81,7 +81,7 @@ module _ (P : Fault → Type 0) (of : OfTasks P) where
       (flat_map_all P (file_faults c task) files
       (all_every (λ file. AllByRecursion P (file_faults c task file)) (file_all c task) files))
 
-  keep_all : (c : Course) (u : Use) → AllByRecursion P (keep_faults c u)
+  pub keep_all : (c : Course) (u : Use) → AllByRecursion P (keep_faults c u)
   keep_all c (task, Polygon name) = tt
   keep_all c (task, Source name) = tt
   keep_all c (task, Store) = tt
@@ -97,7 +97,7 @@ module _ (P : Fault → Type 0) (of : OfTasks P) where
       (flat_map_all P (keep_faults c) (uses k.plan)
       (all_every (λ u. AllByRecursion P (keep_faults c u)) (keep_all c) (uses k.plan)))
 
-all_met : OfTasks IsMet
+pub all_met : OfTasks IsMet
 all_met = record {
   wrong = λ task cause spot. refl;
   long = λ task. refl;

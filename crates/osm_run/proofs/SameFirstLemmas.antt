@@ -15,6 +15,10 @@ pub same_first : (xs ys : List Fault) → SameFirst xs ys → first_fault xs ≡
 unfolding SameFirst
 same_first xs ys is = ap first_fault (sym (append-nil xs)) ∙ is [] [] refl ∙ ap first_fault (append-nil ys)
 
+pub same_before : (xs ys more : List Fault) → SameFirst xs ys → first_fault (xs ++ more) ≡ first_fault (ys ++ more)
+unfolding SameFirst
+same_before xs ys more is = is more more refl
+
 pub same_none : SameFirst [] []
 unfolding SameFirst
 same_none more rest is = is

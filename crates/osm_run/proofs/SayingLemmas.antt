@@ -1,17 +1,20 @@
 -- A run is the same where only what was said changed after it.
 use Rattle.std.proofs.Common.{◌≡◌, ◌≤◌, ℕ, List, ◌++◌, sym, ap, subst, ◌∙◌}
-use Rattle.std.specs.Prelude.{Option, Some, None, flat_map}
+use Rattle.std.specs.Prelude.{Result, flat_map}
 use Rattle.std.specs.Io.KnownBytes.{append_known}
+use Rattle.osm_graph.specs.Graphs.{GraphValue}
 use Rattle.osm_host.specs.Counts.{Rose}
 use Rattle.osm_host.specs.Moments.{Moment}
 use Rattle.osm_host.specs.declared.outside.Op.{Op}
 use Rattle.osm_report.specs.declared.fault.Fault.{Fault}
 use Rattle.osm_run.specs.Command.{Command}
 use Rattle.osm_run.specs.Course.{Course, any_failed}
-use Rattle.osm_run.specs.HowFar.{AfterMemory, AfterStop, AfterTasks, FilesAfter, FilesMade, HowFar, OthersAtMemory, OutOfMemory, Ran, Stopped, WhereTold}
+use Rattle.osm_run.specs.HowFar.{AfterMemory, AfterStop, AfterTasks, FilesAfter, FilesMade, HowFar, FilesAtMemory, OutOfMemory, Ran, Stopped, WhereTold}
 use Rattle.osm_run.specs.OnHost.{CountsBy, IsCourse, SameNames}
-use Rattle.osm_run.specs.Outcome.{IsRefusedOrRun, IsRun, IsSaid}
+use Rattle.osm_run.specs.Outcome.{IsSaid}
 use Rattle.osm_run.specs.Plan.{Plan, names_of}
+use Rattle.osm_run.specs.Commands.{command_of_graph}
+use Rattle.osm_run.specs.WordsRun.{DidRun, IsCountedRun, IsRefusedOrRun, TakesSteps, WereRefused}
 use Rattle.osm_run.specs.declared.status.Status.{Status}
 
 -- what is said after a run in which nothing was said
@@ -66,7 +69,7 @@ module _ (before between after : Moment) (files : after.files ≡ between.files)
     place = m.place;
     fault = m.fault;
     ends = m.ends;
-    others = subst (λ now. WhereTold before.files now (OthersAtMemory c m.place)) (sym files) m.others;
+    files = subst (λ now. WhereTold before.files now (FilesAtMemory k c m.place)) (sym files) m.files;
   }
 
   far_later : (k : Command) (c : Course) (status : Status) → HowFar k c before between status →
@@ -75,10 +78,29 @@ module _ (before between after : Moment) (files : after.files ≡ between.files)
   far_later k c status (Ran t) = Ran (tasks_later k c status t)
   far_later k c status (OutOfMemory m) = OutOfMemory (memory_later k c status m)
 
-  -- the outcome of a run is the same where only what was said changed after it
-  pub outcome_later : (refused : Fault → Type 0) (asked : Option Command) (status : Status) →
-      IsRefusedOrRun refused asked before between status → IsRefusedOrRun refused asked before after status
-  outcome_later refused None status r = record {
+  steps_later : (g : GraphValue) (c : Course) (status : Status) (steps : ℕ) →
+      (far : HowFar (command_of_graph g) c before between status) → TakesSteps g c status.ends far steps →
+      TakesSteps g c status.ends (far_later (command_of_graph g) c status far) steps
+  unfolding far_later
+  steps_later g c status steps (Stopped stop) took = took
+  steps_later g c status steps (Ran tasks) took = took
+  steps_later g c status steps (OutOfMemory memory) took = took
+
+  counted_later : (g : GraphValue) (status : Status) (steps : ℕ) → IsCountedRun g before between status steps →
+      IsCountedRun g before after status steps
+  counted_later g status steps r = record {
+    run = record {
+      course = r.run.course;
+      is_course = course_later (command_of_graph g).plan r.run.course r.run.is_course;
+      how_far = far_later (command_of_graph g) r.run.course status r.run.how_far;
+    };
+    counted = steps_later g r.run.course status steps r.run.how_far r.counted;
+  }
+
+  -- the run of words is the same where only what was said changed after it
+  pub outcome_later : (asked : Result GraphValue Fault) (status : Status) (steps : ℕ) →
+      IsRefusedOrRun asked before between status steps → IsRefusedOrRun asked before after status steps
+  outcome_later asked status steps (WereRefused r none) = WereRefused (record {
     fault = r.fault;
     ends = r.ends;
     same = record {
@@ -87,9 +109,6 @@ module _ (before between after : Moment) (files : after.files ≡ between.files)
       gave = λ n. gave n ∙ r.same.gave n;
       known = known ∙ r.same.known;
     };
-  }
-  outcome_later refused (Some k) status run = record {
-    course = run.course;
-    is_course = course_later k.plan run.course run.is_course;
-    how_far = far_later k run.course status run.how_far;
-  }
+  }) none
+  outcome_later asked status steps (DidRun graph is runnable r) =
+      DidRun graph is runnable (counted_later graph status steps r)

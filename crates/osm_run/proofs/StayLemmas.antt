@@ -12,8 +12,8 @@ use Rattle.osm_run.specs.Plan.{Plan, Polygon, Source, Store, Sink, Use, uses, op
 use Rattle.osm_run.specs.Command.{Command}
 use Rattle.osm_run.specs.Course.{Course, entry, entries, any_failed, run_faults, first_fault}
 use Rattle.osm_run.specs.OnHost.{IsCourse}
-use Rattle.osm_run.specs.HowFar.{WhereTold, WasOpened, FilesAfter, FilesMade, OthersAtMemory, may_change, IsBeforeSinks, AfterStop, HowFar, Stopped, Ran, OutOfMemory}
-use Rattle.osm_run.specs.Outcome.{IsRun, IsUnchanged, IsRefusedOrRun}
+use Rattle.osm_run.specs.HowFar.{WhereTold, WasOpened, FilesAfter, FilesAtMemory, FilesMade, OthersAtMemory, may_change, IsBeforeSinks, AfterStop, HowFar, Stopped, Ran, OutOfMemory}
+use Rattle.osm_run.specs.Outcome.{IsRun}
 use Rattle.osm_run.specs.Codes.{code_of}
 use Rattle.osm_run.specs.Headline.{OthersStay, SameFiles, TellsReader}
 use Rattle.osm_run.specs.declared.status.Status.{Status}
@@ -53,7 +53,8 @@ not_changed c place was now n files none = files n (none_any (may_change c place
     none))
 
 -- what fails a test in the plan fails it among the files that were opened
-none_opened : (k : Command) (c : Course) (before after : Moment) (test : Use → Bool) → IsCourse k.plan c before after →
+pub none_opened : (k : Command) (c : Course) (before after : Moment) (test : Use → Bool) →
+    IsCourse k.plan c before after →
     list_any test (uses k.plan) ≡ false → AllByRecursion (λ u. test u ≡ false) c.opened
 none_opened k c before after test course none =
     all_left (λ u. test u ≡ false) c.opened course.order.0
@@ -71,8 +72,8 @@ others_far k c before after status course (Stopped s) =
 others_far k c before after status course (Ran t) =
     told_more before.files after.files (FilesAfter k c) (OthersStay k.plan) t.files (λ was now files. files.others)
 others_far k c before after status course (OutOfMemory m) =
-    told_more before.files after.files (OthersAtMemory c m.place) (OthersStay k.plan) m.others
-    (λ was now files n none. not_changed c m.place was now n files
+    told_more before.files after.files (FilesAtMemory k c m.place) (OthersStay k.plan) m.files
+    (λ was now files n none. not_changed c m.place was now n files.others
     (none_opened k c before after (is_sink_named n) course none))
 
 -- a name that no writer has stays
@@ -111,15 +112,11 @@ not_refused k c before after status (OutOfMemory m) = (
 )
 not_refused k c before after status (Ran t) = rw t.fault (refusal_of_first (run_faults k c) (faults_met k c))
 
--- the status of a refusal comes only where nothing changed
-pub refused_unchanged : (asked : Option Command) (before after : Moment) (status : Status) →
-    IsRefusedOrRun (λ fault. Unit {0}) asked before after status →
-    (code_of status.fault ≡ 2) ⊎ (code_of status.fault ≡ 3) → (status.ends ≡ []) × IsUnchanged before after
-refused_unchanged None before after status r code = (r.ends, r.same)
-refused_unchanged (Some k) before after status run (inl two) =
-    absurd ((not_refused k run.course before after status run.how_far).0 two)
-refused_unchanged (Some k) before after status run (inr three) =
-    absurd ((not_refused k run.course before after status run.how_far).1 three)
+-- no run has the status of a refusal
+pub no_refusal : (k : Command) (before after : Moment) (status : Status) → (run : IsRun k before after status) →
+    (code_of status.fault ≡ 2) ⊎ (code_of status.fault ≡ 3) → ⊥
+no_refusal k before after status run (inl two) = (not_refused k run.course before after status run.how_far).0 two
+no_refusal k before after status run (inr three) = (not_refused k run.course before after status run.how_far).1 three
 
 -- files of other kinds are no sinks
 polygon_no_sink : (u : Use) → is_polygon u ≡ true → is_sink u ≡ false
@@ -229,8 +226,8 @@ same_far k c before after status unnamed (Ran t) =
     (all_uses (λ u. is_sink_named n u ≡ false) k.plan
     (subst (AllByRecursion (λ u. is_sink_named n u ≡ false)) t.opened (unnamed n)))))
 same_far k c before after status unnamed (OutOfMemory m) =
-    told_more before.files after.files (OthersAtMemory c m.place) SameFiles m.others
-    (λ was now files n. not_changed c m.place was now n files (unnamed n))
+    told_more before.files after.files (FilesAtMemory k c m.place) SameFiles m.files
+    (λ was now files n. not_changed c m.place was now n files.others (unnamed n))
 
 pub entries_or_same : (k : Command) (before after : Moment) (status : Status) (run : IsRun k before after status) →
     (status.ends ≡ entries k.plan run.course) ⊎ WhereTold before.files after.files SameFiles

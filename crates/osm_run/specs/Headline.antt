@@ -1,8 +1,9 @@
 -- The promises of a run in the words of its user, for every command and what it means.
 -- Here each promise is read off from the outcome at once; no code goes through it.
-use Rattle.std.specs.Prelude.{ℕ, ◌≡◌, ◌<◌, ◌≤◌, List, [], length, take, false, nat_le, Option, Some, None, ⊤}
+use Rattle.std.specs.Prelude.{ℕ, ◌≡◌, ◌<◌, ◌≤◌, List, [], length, take, Bool, false, ◌&&◌, nat_le, nat_lt, Option, Some, None, ⊤}
 use Rattle.std.specs.FinMap as finite
 use Rattle.std.specs.List.{AllByRecursion, list_any}
+use Rattle.std.specs.Str.{bytes_eq}
 use Rattle.osm_entity.specs.Meaning.{Wrong, Meaning}
 use Rattle.osm_entity.specs.declared.verdict.Cause.{Cause}
 use Rattle.osm_entity.specs.declared.verdict.Spot.{Spot}
@@ -57,6 +58,19 @@ HoldsPrefixUnlessRose k c before after now (task, Sink name) =
     (Rose (before.count Keep name) (after.count Keep name) → ⊥) →
     (size : ℕ) × (finite.get now name ≡ Some (take size ((meaning_of k c).bytes task)))
 HoldsPrefixUnlessRose k c before after now (task, file) = ⊤
+
+-- whether this is a sink of this name, of a task before a place in command order
+abbrev pub is_sink_before : ℕ → List ℕ → Use → Bool
+is_sink_before place n (task, Sink name) = bytes_eq n name && nat_lt task place
+is_sink_before place n (task, file) = false
+
+-- the writers before a place in command order hold the first bytes of their meaning, and every other name is as it was;
+-- nothing is said of a name whose count of keeps rose
+pub record HoldPrefixesBefore (k : Command) (c : Course) (before after : Moment) (place : ℕ) (was now : Files) : Type 0
+  where
+    pub written : AllByRecursion (λ u. u.0 < place → HoldsPrefixUnlessRose k c before after now u) (uses k.plan)
+    pub others : (n : List ℕ) → list_any (is_sink_before place n) (uses k.plan) ≡ false →
+        (Rose (before.count Keep n) (after.count Keep n) → ⊥) → finite.get now n ≡ finite.get was n
 
 -- a name that no writer of a plan has is as it was
 abbrev pub OthersStay : Plan → Files → Files → Type 0

@@ -1,6 +1,6 @@
 -- How far a run came, and what its status and its files are then.
 -- Here it stopped at an opening, ran, or was out of memory; the code returns at many places.
-use Rattle.std.specs.Prelude.{ℕ, ◌≡◌, ◌≤◌, ◌<◌, ◌⊎◌, List, [], ◌∷◌, ◌++◌, length, take, Bool, true, false, ◌&&◌, ◌||◌, nat_lt, if◌then◌else◌, Option, Some, None, ⊤, flat_map}
+use Rattle.std.specs.Prelude.{ℕ, ◌≡◌, ◌≤◌, ◌<◌, ◌⊎◌, List, [], ◌∷◌, ◌++◌, length, take, Bool, true, false, ◌&&◌, ◌||◌, nat_lt, if◌then◌else◌, Option, Some, None, Contains, ⊤, flat_map}
 use Rattle.std.specs.FinMap as finite
 use Rattle.std.specs.List.{list_any, AllByRecursion}
 use Rattle.std.specs.Str.{bytes_eq}
@@ -107,12 +107,28 @@ abbrev pub OthersAtMemory : Course → ℕ → Files → Files → Type 0
 OthersAtMemory c place before after = (n : List ℕ) → list_any (may_change c place n) c.opened ≡ false →
     finite.get after n ≡ finite.get before n
 
+-- the sink of a task was opened, and its file is the first bytes of its meaning; after a failed keep nothing is said
+pub record HoldsPrefixOpened (k : Command) (c : Course) (after : Files) (task : ℕ) (name : List ℕ) : Type 0 where
+  pub opened : Contains c.opened (task, Sink name)
+  pub prefix : c.failed Keep task ≡ false →
+      (size : ℕ) × (finite.get after name ≡ Some (take size ((meaning_of k c).bytes task)))
+
+-- so it is of each writer before a place in command order
+abbrev pub HoldsPrefixBefore : Command → Course → ℕ → Files → Use → Type 0
+HoldsPrefixBefore k c place after (task, Sink name) = task < place → HoldsPrefixOpened k c after task name
+HoldsPrefixBefore k c place after (task, file) = ⊤
+
+-- the files out of memory: the writers before a place hold first bytes, and every other name is as it was
+pub record FilesAtMemory (k : Command) (c : Course) (place : ℕ) (before after : Files) : Type 0 where
+  pub written : AllByRecursion (HoldsPrefixBefore k c place after) (uses k.plan)
+  pub others : OthersAtMemory c place before after
+
 -- a run ended out of memory; from the first sink on there is an entry for each reader
 pub record AfterMemory (k : Command) (c : Course) (before after : Moment) (status : Status) : Type 0 where
   pub place : ℕ
   pub fault : status.fault ≡ Memory
   pub ends : (status.ends ≡ entries k.plan c) ⊎ ((status.ends ≡ []) × AllByRecursion (IsBeforeSinks c) c.opened)
-  pub others : WhereTold before.files after.files (OthersAtMemory c place)
+  pub files : WhereTold before.files after.files (FilesAtMemory k c place)
 
 -- how far a run came: it stopped at an opening, its tasks ran, or it was out of memory
 pub data HowFar (k : Command) (c : Course) (before after : Moment) (status : Status) : Type 0 where

@@ -1,6 +1,6 @@
 -- The outcome of a run: how the host and the status after it stand to the command and the host before it.
 -- Here the whole run is one relation between two moments; the code goes through it call by call.
-use Rattle.std.specs.Prelude.{ℕ, ◌≡◌, ◌≤◌, List, [], Option, Some, None}
+use Rattle.std.specs.Prelude.{ℕ, ◌≡◌, ◌≤◌, List, []}
 use Rattle.std.specs.Io.KnownBytes.{append_known}
 use Rattle.osm_host.specs.Counts.{Rose}
 use Rattle.osm_host.specs.Moments.{Moment}
@@ -36,14 +36,3 @@ pub record IsSaid (text : List ℕ) (before after : Moment) : Type 0 where
   pub silent : text ≡ [] → (after.said ≡ before.said) × (after.mute ≡ before.mute)
   pub later : before.mute ≤ after.mute
   pub said : (Rose before.mute after.mute → ⊥) → after.said ≡ append_known before.said text
-
--- words are refused with one of these faults, or they are a command that ran
-abbrev pub IsRefusedOrRun : (Fault → Type 0) → Option Command → Moment → Moment → Status → Type 0
-IsRefusedOrRun refused None before after status = AfterRefusal refused before after status
-IsRefusedOrRun refused (Some k) before after status = IsRun k before after status
-
--- the outcome of words: what is said with the fault of the run, and that they were refused or ran
-pub record IsOutcome (says : Fault → List ℕ) (refused : Fault → Type 0) (asked : Option Command)
-    (before after : Moment) (status : Status) : Type 0 where
-  pub said : IsSaid (says status.fault) before after
-  pub run : IsRefusedOrRun refused asked before after status

@@ -1,15 +1,17 @@
-//! What words ask for: a graph of tasks, and whether that is a copy.
-ghost use Rattle.std.specs.Prelude.{◌≡◌, ◌≢◌, IfErr, IfNone, IfOk, IfSome, None, Ok, Err, Some};
-ghost use Rattle.std.specs.Option.{option_copied};
+//! What words ask for: a graph of tasks, and whether it is run.
+ghost use Rattle.std.specs.Prelude.{◌≡◌, ◌≢◌, ◌≤◌, length, not, IfErr, IfNone, IfOk, IfSome, Ok, Err};
+ghost use Rattle.osm_graph.specs.Graphs.{most_joined_tasks};
+ghost use Rattle.osm_machine.specs.TaskMeanings.{is_kind_built};
 ghost use Rattle.osm_report.specs.declared.fault.Fault.TheVariants.{Memory};
-ghost use Rattle.osm_run.specs.Asked.{IsRefusal, graph_asked};
-ghost use Rattle.osm_run.specs.Copying.{copied_files, opl_read, opl_written};
+ghost use Rattle.osm_run.specs.Commands.{AreTasksKept};
+ghost use Rattle.osm_run.specs.Asked.{IsRefusal, IsRunnable, first_unbuilt, graph_asked};
 
 use osm_circle::check;
 use osm_entity::Text;
 use osm_graph::{Graph, connect};
+use osm_machine::is_built;
 use osm_report::Fault;
-use osm_tasks::{Task, TaskKind, resolve};
+use osm_tasks::{Task, resolve};
 use osm_words::split;
 use std::alloc::Global;
 
@@ -25,48 +27,46 @@ pub fn graph_asked(alloc: Global, words: &[Text]) -> Result<Graph, Fault>
     Ok(graph)
 }
 
-/// The fault with which a graph is refused that isn't built: a bare circle, where it has one.
-pub fn refusal_of(graph: &Graph) -> Fault
-    ensures { IsRefusal (Ok graph.now) result }
+/// The fault with which a graph is refused: a bare circle, or its first task that isn't built;
+/// `None` where it is run.
+pub fn refusal_of(graph: &Graph) -> Option<Fault>
+    ensures refused { IfSome result (λ fault. IsRefusal (Ok graph.now) fault) }
+    ensures run { IfNone result (IsRunnable graph.now) }
 {
+    graph.kept();
     match check(graph) {
-        Err(circle) => Fault::Buffering(circle),
-        Ok(()) => Fault::NotBuilt { task: 0 },
-    }
-}
-
-/// The files from and to which tasks copy; `None` for all tasks but those of a copy.
-pub fn copied_files(tasks: &[Task]) -> Option<(&Text, &Text)>
-    ensures some { IfSome result (λ files.
-        copied_files tasks.now ≡ Some (files.0.now, files.1.now)) }
-    ensures none { IfNone result (copied_files tasks.now ≡ None) }
-{
-    match tasks {
-        [read, write] => match opl_read(&read.kind) {
-            Some(from) => match opl_written(&write.kind) {
-                Some(to) => Some((from, to)),
-                None => None,
-            },
+        Err(circle) => Some(Fault::Buffering(circle)),
+        Ok(()) => match first_unbuilt(graph.tasks().as_slice()) {
+            Some(task) => Some(Fault::NotBuilt { task }),
             None => None,
         },
-        _ => None,
     }
 }
 
-fn opl_read(kind: &TaskKind) -> Option<&Text>
-    ensures { option_copied result ≡ opl_read kind.now }
+// The first task that isn't built.
+fn first_unbuilt(tasks: &[Task]) -> Option<u32>
+    requires { length tasks.now ≤ most_joined_tasks }
+    ensures { result ≡ first_unbuilt tasks.now }
 {
-    match kind {
-        TaskKind::ReadOpl { file } => Some(file),
-        _ => None,
+    for (at, task) in tasks.iter().enumerate() {
+        if is_unbuilt(task) {
+            return Some(at as u32);
+        }
     }
+    None
 }
 
-fn opl_written(kind: &TaskKind) -> Option<&Text>
-    ensures { option_copied result ≡ opl_written kind.now }
+fn is_unbuilt(task: &Task) -> bool
+    ensures { result ≡ not (is_kind_built task.now.kind) }
 {
-    match kind {
-        TaskKind::WriteOpl { file } => Some(file),
-        _ => None,
+    !is_built(&task.kind)
+}
+
+/// What each task of a command keeps.
+pub fn tasks_kept(tasks: &[Task])
+    ensures { AreTasksKept tasks.now }
+{
+    for task in tasks {
+        task.kept();
     }
 }

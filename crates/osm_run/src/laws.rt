@@ -4,17 +4,16 @@ ghost use Rattle.std.specs.List.{AllByRecursion, list_any};
 ghost use Rattle.osm_host.specs.Moments.{Moment};
 ghost use Rattle.osm_host.specs.declared.outside.Op.{Op};
 ghost use Rattle.osm_report.specs.declared.fault.Fault.{Fault};
-ghost use Rattle.osm_report.specs.declared.fault.Fault.TheVariants.{Clean};
+ghost use Rattle.osm_report.specs.declared.fault.Fault.TheVariants.{Clean, Memory};
 ghost use Rattle.osm_run.specs.Causes.{CauseOf, UncleanBy};
 ghost use Rattle.osm_run.specs.Codes.{code_of};
 ghost use Rattle.osm_run.specs.Command.{Command};
-ghost use Rattle.osm_run.specs.Copying.{copy_command};
 ghost use Rattle.osm_run.specs.Course.{Course, entries, meaning_of};
-ghost use Rattle.osm_run.specs.Headline.{EachFileNow, HoldsBytes, HoldsPrefixUnlessRose, HoldsUnlessRose, IsCalmStop, IsComplete, IsUnspilled, IsWholeCourse, NoneRose, OfEachRun, OthersStay, SameFiles, RanItsTasks, TellsReader};
+ghost use Rattle.osm_run.specs.Headline.{EachFileNow, HoldPrefixesBefore, HoldsBytes, HoldsPrefixUnlessRose, HoldsUnlessRose, IsCalmStop, IsComplete, IsUnspilled, IsWholeCourse, NoneRose, OfEachRun, OthersStay, SameFiles, RanItsTasks, TellsReader};
 ghost use Rattle.osm_run.specs.HowFar.{AfterStop, IsBeforeSinks, WhereTold};
 ghost use Rattle.osm_run.specs.Lawful.{EndsWhole, IsLawful};
 ghost use Rattle.osm_run.specs.OnHost.{IsCourse};
-ghost use Rattle.osm_run.specs.Outcome.{IsRefusedOrRun, IsSaid, IsUnchanged};
+ghost use Rattle.osm_run.specs.Outcome.{IsSaid};
 ghost use Rattle.osm_run.specs.Plan.{is_named, numbered, uses};
 ghost use Rattle.osm_run.specs.declared.status.Status.{Status};
 
@@ -43,6 +42,14 @@ pub fn writers_hold()
         EachFileNow k.plan before after (HoldsPrefixUnlessRose k run.course before after)) }
 {}
 
+/// Out of memory, the writers before a place in command order hold the first bytes of their
+/// meaning, and every other name is as it was. Nothing is said of a name whose count of keeps rose.
+pub fn memory_leaves_prefixes()
+    ensures { OfEachRun (λ k before after status run. status.fault ≡ Memory →
+        WhereTold before.files after.files (λ was now. (place : ℕ) ×
+        HoldPrefixesBefore k run.course before after place was now)) }
+{}
+
 /// A name that no writer has stays as it was, and so do the counts of a name that no file has, also
 /// out of memory.
 pub fn others_stay()
@@ -52,13 +59,10 @@ pub fn others_stay()
         list_any (is_named n) (uses k.plan) ≡ false → after.count op n ≡ before.count op n) }
 {}
 
-/// A status of 2 or 3, that of a refusal, comes only where nothing changed, with whatever faults
-/// words may be refused.
-pub fn refusals_change_nothing()
-    ensures { (asked : Option Command) (before after : Moment) (status : Status) →
-        IsRefusedOrRun (λ fault. ⊤) asked before after status →
-        (code_of status.fault ≡ 2) ⊎ (code_of status.fault ≡ 3) →
-        (status.ends ≡ []) × IsUnchanged before after }
+/// No run has a status of 2 or 3, that of a refusal.
+pub fn runs_are_no_refusals()
+    ensures { OfEachRun (λ k before after status run.
+        (code_of status.fault ≡ 2) ⊎ (code_of status.fault ≡ 3) → ⊥) }
 {}
 
 /// There is an entry for each reader, or none at all where no sink was opened and nothing came from

@@ -5,18 +5,21 @@
 #![tactic(auto)]
 
 mod asking;
-mod copy_laws;
-mod copying;
+mod closing;
+mod command_laws;
+mod devices;
 mod laws;
-mod putting;
-mod reading;
+mod machines;
+mod opening;
 mod running;
 mod status;
+mod words_laws;
 
-pub use copy_laws::{copies_are_lawful, copies_keep_the_headline, words_are_refused_rightly};
+pub use command_laws::{commands_are_lawful, machines_run_their_command};
 pub use laws::{
     calm_runs_are_complete, calm_stops_are_complete, clean_runs, entries_come_with_files,
-    faults_have_causes, others_stay, refusals_change_nothing, writers_hold,
+    faults_have_causes, memory_leaves_prefixes, others_stay, runs_are_no_refusals, writers_hold,
 };
 pub use running::run_alone;
 pub use status::{Ends, SourceEnd, Status};
+pub use words_laws::{words_are_refused_rightly, words_run_their_command};

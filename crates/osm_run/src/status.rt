@@ -35,7 +35,8 @@ pub type Ends = Sequence<SourceEnd>;
 /// The status of a run.
 #[derive(Debug, Drop)]
 pub struct Status {
-    /// 0 clean, 2 a refused command, 3 a bare circle, 4 a wrong input, 5 a failed device, 6 out of memory.
+    /// 0 clean, 2 a refused command, 3 a bare circle, 4 a wrong input, 5 a failed device, 6 out of
+    /// memory.
     pub code: u8,
     pub fault: Fault,
     pub ends: Ends,

@@ -14,8 +14,13 @@ use std::sync::ledger::{Blank, Ledger};
 /// The words of a copy from `a` to `b`.
 const COPY: [&[u8]; 4] = [b"--read-opl", b"file=a", b"--write-opl", b"file=b"];
 
-/// Words that ask for a command that is not built.
-const OTHER: [&[u8]; 4] = [b"--read-pbf", b"file=a", b"--write-opl", b"file=b"];
+/// Words that ask for a copy of a file of changes.
+const OTHER: [&[u8]; 4] = [
+    b"--read-opl-change",
+    b"file=a",
+    b"--write-opl-change",
+    b"file=b",
+];
 
 /// What `b` holds before each run.
 const BEFORE: &[u8] = b"as before";
@@ -82,8 +87,8 @@ the keep fails|copy|both|b|keep|1|1|n1 x1.5 y2/|
 5|11|ended|task 1: keep failed||
 spaces stand at both ends|copy|both|||0|1| w5  Nn1,n2 |
 0|12|ended||w5 v0 dV c0 t i0 u T Nn1,n2/|
-other words are no copy|other|both|||0|1|n1 x1.5 y2/|
-2|none||task 0: not built|as before|
+a change is copied|other|both|||0|1|n1 v2 dD/|
+0|9|ended||n1 v2 dD c0 t i0 u T x y/|
 ";
 
 /// A row by its columns.
