@@ -1,5 +1,7 @@
 """Makes the bytes of raw PBF files by hand: fields, messages, frames, blocks, and whole files as docs/FORMATS.md says
-that they are written. It shares nothing with the program that is tested with it."""
+that they are written; and the lines of OPL of the same items. It shares nothing with the program that is tested with
+it."""
+from datetime import datetime, timezone
 from collections import namedtuple
 
 # An item. A place is (latitude, longitude) in nanodegrees; a member is (kind, id, role), its kind as the file has it: 0
@@ -216,3 +218,33 @@ def dense_nodes(run, texts, omitmetadata, granularity):
             keys_vals.append(0)
         out += packed(10, keys_vals)
     return out
+
+
+def escaped(text):
+    """A text as OPL has it."""
+    return "".join(f"%{ord(one):x}%" if one <= " " or one in "%,=@\x7f" else one for one in text)
+
+
+def degrees(nanodegrees):
+    """Degrees in decimal, without zeros at the end."""
+    whole, rest = divmod(abs(nanodegrees), 10**9)
+    return "-" * (nanodegrees < 0) + f"{whole}" + (f".{rest:09}".rstrip("0") if rest else "")
+
+
+def opl_text(items):
+    """The lines of OPL of these items."""
+    out = []
+    for item in items:
+        meta = item.meta
+        moment = datetime.fromtimestamp(meta.time, timezone.utc).strftime("%Y-%m-%dT%H:%M:%SZ") if meta.time else ""
+        tags = ",".join(f"{escaped(key)}={escaped(value)}" for key, value in item.tags)
+        if isinstance(item, Node):
+            rest = f"x{degrees(item.place[1])} y{degrees(item.place[0])}"
+        elif isinstance(item, Way):
+            rest = "N" + ",".join(f"n{ref}" for ref in item.refs)
+        else:
+            rest = "M" + ",".join(f"{'nwr'[kind]}{number}@{escaped(role)}" for kind, number, role in item.members)
+        kind = "nwr"[KINDS[type(item)]]
+        user = escaped(meta.user)
+        out.append(f"{kind}{item.id} v{meta.version} dV c{meta.changeset} t{moment} i{meta.uid} u{user} T{tags} {rest}\n")
+    return "".join(out).encode()
