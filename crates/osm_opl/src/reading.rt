@@ -138,6 +138,8 @@ impl OplReader {
     /// The next item. `None` where the whole lines that are left give no further item before their
     /// end or before the first bad one; then `verdict` says which. At `Err` it gave nothing, its
     /// verdict is what it was, and the call may be made again.
+    // In a caller that reads other formats too, what stands here would slow these down.
+    #[inline(never)]
     pub fn next(&mut self) -> Result<Option<Item>, NoMemory>
         ensures some { IfOk result (λ found. IfSome found
             (λ item. GaveItems self.old self.new (item ∷ []))) }
