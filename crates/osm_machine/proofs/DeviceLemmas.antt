@@ -13,7 +13,7 @@ use Rattle.osm_machine.specs.ReadingFiles.{file_fed}
 use Rattle.osm_machine.specs.Sinks.{FaultsOfPuts}
 use Rattle.osm_machine.specs.Writing.{writing_verdict}
 use Rattle.osm_machine.specs.declared.kind.MachineKind.{MachineKind}
-use Rattle.osm_machine.specs.declared.kind.MachineKind.TheVariants.{Read, Make, Nothing, Write, Drops, Copies, Filters, UsesNodes, UsesWays, Sorts, Merges, Appends, Applies, Simplifies}
+use Rattle.osm_machine.specs.declared.kind.MachineKind.TheVariants.{Read, Make, Nothing, Write, Drops, Copies, Filters, UsesNodes, UsesWays, Sorts, Merges, Appends, Applies, Simplifies, Selects}
 use Rattle.osm_machine.specs.declared.puts.Puts.{Puts}
 use Rattle.osm_machine.specs.declared.puts.Puts.TheVariants.{Good, Refused, Stopped}
 
@@ -80,3 +80,4 @@ devices_told (Merges m) given told = subst (AreDevicesTold (Merges m)) (sym told
 devices_told (Appends m) given told = subst (AreDevicesTold (Appends m)) (sym told.made) (record { source = tt; sink = tt })
 devices_told (Applies m) given told = subst (AreDevicesTold (Applies m)) (sym told.made) (record { source = tt; sink = tt })
 devices_told (Simplifies m) given told = subst (AreDevicesTold (Simplifies m)) (sym told.made) (record { source = tt; sink = tt })
+devices_told (Selects m) given told = subst (AreDevicesTold (Selects m)) (sym told.made) (record { source = tt; sink = tt })

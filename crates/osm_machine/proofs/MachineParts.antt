@@ -13,6 +13,7 @@ use Rattle.osm_machine.specs.Reading.{reading}
 use Rattle.osm_machine.specs.Writing.{writing}
 use Rattle.osm_merge.specs.Append.{appending}
 use Rattle.osm_merge.specs.Merging.{merging}
+use Rattle.osm_select.specs.Selecting.{selecting}
 use Rattle.osm_sort.specs.SortMachine.{sorting}
 use Rattle.osm_used.specs.Using.{keeping_used}
 use Rattle.osm_change.proofs.SimplifyMachine.{simplify_is_lawful}
@@ -23,11 +24,12 @@ use Rattle.osm_machine.proofs.MakingLaws.{making_is_lawful}
 use Rattle.osm_machine.proofs.MergeLaws.{appending_is_lawful, applying_is_lawful, merging_is_lawful}
 use Rattle.osm_machine.proofs.ReadingLaws.{reading_is_lawful}
 use Rattle.osm_machine.proofs.WritingLemmas.{writing_is_lawful}
+use Rattle.osm_select.proofs.SelectingLemmas.{selecting_is_lawful}
 use Rattle.osm_sort.proofs.SortMachineLemmas.{sort_is_lawful}
 use Rattle.osm_used.proofs.UsingLemmas.{using_is_lawful}
 use Rattle.osm_machine.specs.MachineKinds.{kind_means, machines}
 use Rattle.osm_machine.specs.declared.kind.MachineKind.{MachineKind}
-use Rattle.osm_machine.specs.declared.kind.MachineKind.TheVariants.{Read, Make, Nothing, Write, Drops, Copies, Filters, UsesNodes, UsesWays, Sorts, Merges, Appends, Applies, Simplifies}
+use Rattle.osm_machine.specs.declared.kind.MachineKind.TheVariants.{Read, Make, Nothing, Write, Drops, Copies, Filters, UsesNodes, UsesWays, Sorts, Merges, Appends, Applies, Simplifies, Selects}
 use Rattle.osm_machine.proofs.SumLemmas.{IsLawful, IsPart, is_part, part_is_lawful}
 
 module _ {S K : Type 0} where
@@ -73,6 +75,9 @@ module _ {S K : Type 0} where
   abbrev pub simplifies_part : IsPart (meanings_of simplifying) (machines {S = S} {K = K}) Simplifies
   simplifies_part = is_part (meanings_of simplifying) kind_means Simplifies (λ m. refl)
 
+  abbrev pub selects_part : IsPart (meanings_of selecting) (machines {S = S} {K = K}) Selects
+  selects_part = is_part (meanings_of selecting) kind_means Selects (λ m. refl)
+
   lawful_at : (m : MachineKind S K) → IsLawful machines m
   lawful_at (Read m) = part_is_lawful reading machines Read read_part reading_is_lawful m
   lawful_at (Make m) = part_is_lawful making machines Make make_part making_is_lawful m
@@ -88,6 +93,7 @@ module _ {S K : Type 0} where
   lawful_at (Appends m) = part_is_lawful (meanings_of_two appending) machines Appends appends_part appending_is_lawful m
   lawful_at (Applies m) = part_is_lawful (meanings_of_two applying) machines Applies applies_part applying_is_lawful m
   lawful_at (Simplifies m) = part_is_lawful (meanings_of simplifying) machines Simplifies simplifies_part simplify_is_lawful m
+  lawful_at (Selects m) = part_is_lawful (meanings_of selecting) machines Selects selects_part selecting_is_lawful m
 
   pub machines_are_lawful : AreLawful (machines {S = S} {K = K})
   machines_are_lawful = record {

@@ -1,7 +1,6 @@
 -- The options of a PBF file are those of their numbers.
 use mathlib.Core.HLevel.{is_prop→PathP}
 use Rattle.std.proofs.Common.{◌≡◌, ℕ, ◌≤◌, arith}
-use Rattle.std.specs.Prelude.{max, min}
 use Rattle.std.proofs.Math.Bridge.{le_prop}
 use Rattle.osm_block_write.specs.declared.options.PbfOptions.{PbfOptions}
 use Rattle.osm_machine.specs.TaskMeanings.{nearest, options_of}

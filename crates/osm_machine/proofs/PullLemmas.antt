@@ -10,6 +10,13 @@ use Rattle.osm_entity.specs.declared.stream.Want.TheVariants.{Pull}
 use Rattle.osm_filter.specs.Filtering.{filter_wants}
 use Rattle.osm_merge.specs.Append.{append_want}
 use Rattle.osm_merge.specs.Heads.{heads_want}
+use Rattle.osm_select.specs.Holding.{holding_wants}
+use Rattle.osm_select.specs.Passing.{passing_wants}
+use Rattle.osm_select.specs.Selecting.{area_wants}
+use Rattle.osm_select.specs.declared.phase.Phase.{Phase as AreaPhase}
+use Rattle.osm_select.specs.declared.phase.Phase.TheVariants.{Gathering as AreaGathering, Giving as AreaGiving, Closed as AreaClosed, Stopped as AreaStopped}
+use Rattle.osm_select.specs.declared.task.Course.{Course}
+use Rattle.osm_select.specs.declared.task.Course.TheVariants.{Passes, Holds}
 use Rattle.osm_sort.specs.SortMachine.{sort_wants}
 use Rattle.osm_sort.specs.declared.phase.Phase.{Phase as SortPhase}
 use Rattle.osm_sort.specs.declared.phase.Phase.TheVariants.{Gathering as SortGathering, Giving as SortGiving, Closed as SortClosed, Stopped as SortStopped}
@@ -23,7 +30,7 @@ use Rattle.osm_machine.specs.MachineKinds.{machines}
 use Rattle.osm_machine.specs.Making.{making_wants}
 use Rattle.osm_machine.specs.Writing.{writing_wants}
 use Rattle.osm_machine.specs.declared.kind.MachineKind.{MachineKind}
-use Rattle.osm_machine.specs.declared.kind.MachineKind.TheVariants.{Read, Make, Nothing, Write, Drops, Copies, Filters, UsesNodes, UsesWays, Sorts, Merges, Appends, Applies, Simplifies}
+use Rattle.osm_machine.specs.declared.kind.MachineKind.TheVariants.{Read, Make, Nothing, Write, Drops, Copies, Filters, UsesNodes, UsesWays, Sorts, Merges, Appends, Applies, Selects, Simplifies}
 use Rattle.osm_machine.specs.declared.making.Progress.{Progress}
 use Rattle.osm_machine.specs.declared.making.Progress.TheVariants.{Going, Closed, Stopped}
 
@@ -86,6 +93,21 @@ heads_never None false true true waiting = λ is. cc
 heads_never None false true false waiting = λ is. cc
 heads_never None false false second waiting = λ is. cc
 
+passing_never : (held : Option Message) (end : Option End) → passing_wants held end ≢ Pull
+passing_never (Some message) end = λ is. cc
+passing_never None None = λ is. cc
+passing_never None (Some end) = λ is. cc
+
+holding_never : (phase : AreaPhase) → holding_wants phase ≢ Pull
+holding_never AreaGathering = λ is. cc
+holding_never (AreaGiving end) = λ is. cc
+holding_never (AreaClosed end) = λ is. cc
+holding_never AreaStopped = λ is. cc
+
+selecting_never : (course : Course) → area_wants course ≢ Pull
+selecting_never (Passes p) = passing_never p.held p.end
+selecting_never (Holds h) = holding_never h.phase
+
 -- of a machine that wants a pull
 pub pulling_has_source : {S K : Type 0} (m : MachineKind S K) → machines.wanted m ≡ Pull → has_source m ≡ true
 pulling_has_source (Read m) is = refl
@@ -104,3 +126,4 @@ pulling_has_source (Appends m) is = absurd (append_never m.held m.first m.second
 pulling_has_source (Applies m) is =
     absurd (heads_never m.heads.ready m.heads.closed m.heads.first.ended m.heads.second.ended m.heads.first.waiting is)
 pulling_has_source (Simplifies m) is = absurd (simplify_never m.phase is)
+pulling_has_source (Selects m) is = absurd (selecting_never m is)

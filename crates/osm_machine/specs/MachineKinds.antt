@@ -14,10 +14,11 @@ use Rattle.osm_machine.specs.Reading.{reading}
 use Rattle.osm_machine.specs.Writing.{writing}
 use Rattle.osm_merge.specs.Append.{appending}
 use Rattle.osm_merge.specs.Merging.{merging}
+use Rattle.osm_select.specs.Selecting.{selecting}
 use Rattle.osm_sort.specs.SortMachine.{sorting}
 use Rattle.osm_used.specs.Using.{keeping_used}
 use Rattle.osm_machine.specs.declared.kind.MachineKind.{MachineKind}
-use Rattle.osm_machine.specs.declared.kind.MachineKind.TheVariants.{Read, Make, Nothing, Write, Drops, Copies, Filters, UsesNodes, UsesWays, Sorts, Merges, Appends, Applies, Simplifies}
+use Rattle.osm_machine.specs.declared.kind.MachineKind.TheVariants.{Read, Make, Nothing, Write, Drops, Copies, Filters, UsesNodes, UsesWays, Sorts, Merges, Appends, Applies, Simplifies, Selects}
 
 -- what a machine means: what its part does
 abbrev pub kind_means : {S K : Type 0} → MachineKind S K → MeaningAt (MachineKind S K)
@@ -35,6 +36,7 @@ kind_means (Merges m) = part_means (meanings_of_two merging) Merges m
 kind_means (Appends m) = part_means (meanings_of_two appending) Appends m
 kind_means (Applies m) = part_means (meanings_of_two applying) Applies m
 kind_means (Simplifies m) = part_means (meanings_of simplifying) Simplifies m
+kind_means (Selects m) = part_means (meanings_of selecting) Selects m
 
 -- what the machines of all kinds mean
 abbrev pub machines : {S K : Type 0} → Meanings (MachineKind S K)

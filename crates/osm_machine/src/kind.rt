@@ -21,6 +21,7 @@ use osm_entity::{Message, NoMemory, Verdict, Want};
 use osm_filter::TagFilter;
 use osm_host::{Sink, Source};
 use osm_merge::{Append, Merge};
+use osm_select::AreaTask;
 use osm_sort::Sort;
 use osm_used::{UsedNode, UsedWay};
 
@@ -55,6 +56,8 @@ pub enum MachineKind<S: Source + Drop, K: Sink + Drop> {
     Applies(Apply),
     /// It keeps the last change of each key.
     Simplifies(Simplify),
+    /// It keeps what an area chooses: bounding-box and bounding-polygon.
+    Selects(AreaTask),
 }
 
 impl<S: Source + Drop, K: Sink + Drop> MachineKind<S, K> {
@@ -71,7 +74,8 @@ impl<S: Source + Drop, K: Sink + Drop> MachineKind<S, K> {
             | MachineKind::UsesNodes(_)
             | MachineKind::UsesWays(_)
             | MachineKind::Sorts(_)
-            | MachineKind::Simplifies(_) => 1,
+            | MachineKind::Simplifies(_)
+            | MachineKind::Selects(_) => 1,
             MachineKind::Merges(_) | MachineKind::Appends(_) | MachineKind::Applies(_) => 2,
         }
     }
@@ -92,7 +96,8 @@ impl<S: Source + Drop, K: Sink + Drop> MachineKind<S, K> {
             | MachineKind::Merges(_)
             | MachineKind::Appends(_)
             | MachineKind::Applies(_)
-            | MachineKind::Simplifies(_) => 1,
+            | MachineKind::Simplifies(_)
+            | MachineKind::Selects(_) => 1,
             MachineKind::Copies(m) => m.outputs(),
         }
     }
@@ -115,6 +120,7 @@ impl<S: Source + Drop, K: Sink + Drop> MachineKind<S, K> {
             MachineKind::Appends(m) => m.want(),
             MachineKind::Applies(m) => m.want(),
             MachineKind::Simplifies(m) => m.want(),
+            MachineKind::Selects(m) => m.want(),
         }
     }
 
@@ -139,7 +145,8 @@ impl<S: Source + Drop, K: Sink + Drop> MachineKind<S, K> {
             | MachineKind::Merges(_)
             | MachineKind::Appends(_)
             | MachineKind::Applies(_)
-            | MachineKind::Simplifies(_) => unreachable!(),
+            | MachineKind::Simplifies(_)
+            | MachineKind::Selects(_) => unreachable!(),
         }
     }
 
@@ -168,6 +175,7 @@ impl<S: Source + Drop, K: Sink + Drop> MachineKind<S, K> {
             MachineKind::Appends(m) => m.accept(port, message),
             MachineKind::Applies(m) => m.accept(port, message),
             MachineKind::Simplifies(m) => m.accept(port, message),
+            MachineKind::Selects(m) => m.accept(port, message),
             MachineKind::Read(_) | MachineKind::Make(_) | MachineKind::Nothing(_) => unreachable!(),
         }
     }
@@ -192,6 +200,7 @@ impl<S: Source + Drop, K: Sink + Drop> MachineKind<S, K> {
             MachineKind::Appends(m) => Ok(m.hand(port)),
             MachineKind::Applies(m) => Ok(m.hand(port)),
             MachineKind::Simplifies(m) => Ok(m.hand(port)),
+            MachineKind::Selects(m) => Ok(m.hand(port)),
             MachineKind::Write(_) | MachineKind::Drops(_) => unreachable!(),
         }
     }
@@ -214,6 +223,7 @@ impl<S: Source + Drop, K: Sink + Drop> MachineKind<S, K> {
             MachineKind::Appends(m) => m.verdict(),
             MachineKind::Applies(m) => m.verdict(),
             MachineKind::Simplifies(m) => m.verdict(),
+            MachineKind::Selects(m) => m.verdict(),
         }
     }
 
@@ -260,6 +270,7 @@ impl<S: Source + Drop, K: Sink + Drop> MachineKind<S, K> {
             MachineKind::Appends(_m) => Parts::of(verdict),
             MachineKind::Applies(_m) => Parts::of(verdict),
             MachineKind::Simplifies(_m) => Parts::of(verdict),
+            MachineKind::Selects(_m) => Parts::of(verdict),
         }
     }
 }

@@ -1,5 +1,6 @@
 //! Laws of the machines of all kinds of tasks.
-ghost use Rattle.std.specs.Prelude.{◌≡◌, ◌≤◌, true};
+ghost use Rattle.std.specs.Prelude.{◌≡◌, ◌≤◌, true, Option};
+ghost use Rattle.osm_area.specs.declared.area.Area.{Area};
 ghost use Rattle.osm_entity.specs.Machines.{AreLawful, Given};
 ghost use Rattle.osm_entity.specs.declared.stream.Want.TheVariants.{Pull};
 ghost use Rattle.osm_machine.specs.MachineDevices.{AreDevicesTold, has_source};
@@ -33,5 +34,5 @@ pub fn pulling_machines_have_a_source<S: Source, K: Sink>()
 
 /// The task of each kind reads at most 2^40 bytes of its source.
 pub fn tasks_read_few_bytes()
-    ensures { (kind : TaskKind) → (kind_meaning kind).limit ≤ reading_limit }
+    ensures { (kind : TaskKind) (area : Option Area) → (kind_meaning kind area).limit ≤ reading_limit }
 {}

@@ -30,6 +30,6 @@ pub use laws::{
     tasks_read_few_bytes,
 };
 pub use machine::{Machine, Parts};
-pub use machine_making::{is_built, make};
+pub use machine_making::make;
 pub use machines::Machines;
 pub use reading_laws::{files_have_few_items, longer_readings_go_on};

@@ -7,7 +7,7 @@ ghost use Rattle.osm_machine.specs.ReadingFormats.{OplFile, PbfFile, reader_task
 ghost use Rattle.osm_machine.specs.Sinks.{TookNothing, sink_seen};
 ghost use Rattle.osm_machine.specs.Writers.{FileWrote, form_of};
 ghost use Rattle.osm_machine.specs.Written.{writer_task};
-ghost use Rattle.osm_machine.specs.TaskMeanings.{IsGivenWhere, IsMachine, IsMachineOf, is_kind_built, reads_file, reading_limit};
+ghost use Rattle.osm_machine.specs.TaskMeanings.{IsGivenWhere, IsMachine, IsMachineOf, area_or_none, reads_area, reads_file, reading_limit};
 
 use crate::copied_tests::copy_tests;
 use crate::copying::Copying;
@@ -18,12 +18,14 @@ use crate::making::Making;
 use crate::reading::Reading;
 use crate::writer::FileWriter;
 use crate::writing::Writing;
+use osm_area::Area;
 use osm_block_write::PbfOptions;
 use osm_change::{Apply, Simplify};
 use osm_entity::{Flow, NoMemory};
 use osm_filter::TagFilter;
 use osm_host::{Sink, Source};
 use osm_merge::{Append, Merge};
+use osm_select::AreaTask;
 use osm_sort::Sort;
 use osm_tasks::{Task, TaskKind};
 use osm_used::{UsedNode, UsedWay};
@@ -32,33 +34,25 @@ use std::alloc::Global;
 /// How many bytes of a source are read; what comes past them is too much.
 const SOURCE_LIMIT: u64 = 1 << 40;
 
-/// Whether tasks of this kind have a machine: all but the two that look at an area.
-pub fn is_built(kind: &TaskKind) -> bool
-    ensures { result ≡ is_kind_built kind.now }
-{
-    !matches!(
-        kind,
-        TaskKind::BoundingBox { .. } | TaskKind::BoundingPolygon { .. }
-    )
-}
-
-/// The machine of a task that is built. A task that reads a file gets its source, one that writes a
-/// file its sink, which took nothing yet, and each other task none. `NoMemory` drops the devices.
+/// The machine of a task. A task that reads a file gets its source, one that writes a file its sink,
+/// which took nothing yet, one that has its area from a file that area, and each other task none.
+/// `NoMemory` drops them.
 pub fn make<S: Source + Drop, K: Sink + Drop>(
     alloc: Global,
     task: &Task,
+    area: Option<Area>,
     source: Option<S>,
     sink: Option<K>,
 ) -> Result<Machine<S, K>, NoMemory>
-    requires built { is_kind_built task.now.kind ≡ true }
+    requires area { IsGivenWhere (reads_area task.now.kind) area (λ _. ⊤) }
     requires source { IsGivenWhere (reads_file task.now.kind) source (λ _. ⊤) }
     requires sink { IsGivenWhere (writes_file task.now.kind) sink (λ k. TookNothing (K.taken k)) }
-    ensures { IfOk result (IsMachineOf task.now.kind
+    ensures { IfOk result (IsMachineOf task.now.kind area
         (option_map (source_seen S.name S.rest S.given S.faults) source)
         (option_map (sink_seen K.name K.taken K.faults) sink)) }
 {
     task.kept();
-    let kind = make_kind(alloc, &task.kind, source, sink)?;
+    let kind = make_kind(alloc, &task.kind, area, source, sink)?;
     Ok(Machine::of(kind))
 }
 
@@ -66,14 +60,15 @@ pub fn make<S: Source + Drop, K: Sink + Drop>(
 fn make_kind<S: Source + Drop, K: Sink + Drop>(
     alloc: Global,
     kind: &TaskKind,
+    area: Option<Area>,
     source: Option<S>,
     sink: Option<K>,
 ) -> Result<MachineKind<S, K>, NoMemory>
     requires ranged { IsTrue (is_ranged kind.now) }
-    requires built { is_kind_built kind.now ≡ true }
+    requires area { IsGivenWhere (reads_area kind.now) area (λ _. ⊤) }
     requires source { IsGivenWhere (reads_file kind.now) source (λ _. ⊤) }
     requires sink { IsGivenWhere (writes_file kind.now) sink (λ k. TookNothing (K.taken k)) }
-    ensures { IfOk result (IsMachineOf kind.now
+    ensures { IfOk result (IsMachineOf kind.now area
         (option_map (source_seen S.name S.rest S.given S.faults) source)
         (option_map (sink_seen K.name K.taken K.faults) sink)) }
 {
@@ -130,7 +125,36 @@ fn make_kind<S: Source + Drop, K: Sink + Drop>(
         TaskKind::UsedWay => Ok(MachineKind::UsesWays(UsedWay::new(alloc)?)),
         TaskKind::Sort => Ok(MachineKind::Sorts(Sort::new(alloc, Flow::Entities)?)),
         TaskKind::SortChange => Ok(MachineKind::Sorts(Sort::new(alloc, Flow::Changes)?)),
-        TaskKind::BoundingBox { .. } | TaskKind::BoundingPolygon { .. } => unreachable!(),
+        TaskKind::BoundingBox {
+            left,
+            right,
+            top,
+            bottom,
+            options,
+        } => {
+            let area = Area::Box {
+                left: *left,
+                right: *right,
+                top: *top,
+                bottom: *bottom,
+            };
+            Ok(MachineKind::Selects(AreaTask::new(alloc, area, *options)?))
+        }
+        TaskKind::BoundingPolygon { options, .. } => {
+            let area = area_given(area);
+            Ok(MachineKind::Selects(AreaTask::new(alloc, area, *options)?))
+        }
+    }
+}
+
+// The area that is given.
+fn area_given(area: Option<Area>) -> Area
+    requires { IsGivenWhere true area (λ _. ⊤) }
+    ensures { result ≡ area_or_none area }
+{
+    match area {
+        Some(area) => area,
+        None => unreachable!(),
     }
 }
 

@@ -1,13 +1,14 @@
 //! Each task as a machine, which is given its messages one by one as it wants them: what it did in which order, its
 //! verdict, and the bytes of its device.
 ghost use Rattle.std.specs.Prelude.{◌≡◌, ◌<◌, IsTrue, IsSome, IsNone};
-ghost use Rattle.osm_machine.specs.TaskMeanings.{is_kind_built, reads_file};
+ghost use Rattle.osm_machine.specs.TaskMeanings.{reads_area, reads_file};
 ghost use Rattle.osm_tasks.specs.Kinds.{writes_file};
 
 use crate::keeping::Keeping;
+use osm_area::Area;
 use osm_entity::{Bytes, End, Flow, Item, Message, Sequence, Text, Want};
 use osm_host::{FailAt, Fails, FileHeld, Files, Host, MemoryHost, MemorySource, Op};
-use osm_machine::{Machine, Parts, is_built, make};
+use osm_machine::{Machine, Parts, make};
 use osm_opl_line::{LineRead, read_line, write_line};
 use osm_tasks::{Task, TaskKind, Tasks, resolve};
 use osm_text::first_part;
@@ -18,7 +19,7 @@ use std::process::Abort;
 pub(crate) type Driven = Machine<MemorySource, Keeping>;
 
 /// How many rows there are.
-const COUNT: u32 = 83;
+const COUNT: u32 = 89;
 
 /// A row for each run, of two lines. The columns of the first: what it shows; the words of the task; its items, with a
 /// `/` between them, which are called by the letters from `a` on; and what comes in at each input, with a `.` for an
@@ -80,6 +81,22 @@ nodes are accepted|--tag-filter accept-nodes highway=track|n1 Thighway=path x0 y
 a broken end of a filter|--tag-filter reject-ways highway=*|n1 Thighway=path x0 y0/w1 Thighway=path/w2 Thighway=track/\
     w3/w4 Tname=Lee,waterway=river/r1 Thighway=track|abcdef!|
 0a000d0e0f0!|Passed|
+what a box touches|--bounding-box left=0 right=1 top=1 bottom=0|n1 x0.5 y0.5/n2 x2 y2/w1 Nn1,n2/w2 Nn2/r1 Mw1@/r2 Mr1@,n2@|\
+    abcdef.|
+0a00c00e0f0.|Clean|
+whole ways of a box|--bounding-box left=0 right=1 top=1 bottom=0 completeWays=yes|n1 x0.5 y0.5/n2 x2 y2/n3 x3 y3/\
+    w1 Nn1,n2/r1 Mw1@|abcde.|
+000000abde.|Clean|
+a relation that names a later one|--bounding-box left=0 right=1 top=1 bottom=0 cascadingRelations=yes|n1 x1 y1/r1 Mr2@/\
+    r2 Mn1@|abc!|
+0000!|Passed|
+a way that is clipped|--bounding-box left=0 right=1 top=1 bottom=0 clipIncompleteEntities=yes|n1 x0 y0/w1 Nn1,n2/\
+    w1 Nn1|ab.|
+0a0c0.|Clean|
+a node behind a way|--bounding-box left=0 right=1 top=1 bottom=0|w1 Nn1/n1 x0 y0|ab.|
+000!|Input { cause: Unordered, spot: Item { port: 0, number: 2 } }|
+the area of a polygon|--bounding-polygon file=a|n1 x0.5 y0.5/n2 x2 y2|ab!|
+0a00!|Passed|
 kinds and numbers are sorted|--sort|w1/n2 x0 y0/n1 x0 y0|abc.|
 0000cba.|Clean|
 nodes, ways, relations|--sort|r1/w1/n9 x0 y0|abc.|
@@ -334,6 +351,23 @@ fn reads(kind: &TaskKind) -> bool
     )
 }
 
+/// Whether a task has its area from a file.
+fn has_polygon(kind: &TaskKind) -> bool
+    ensures { result ≡ reads_area kind.now }
+{
+    matches!(kind, TaskKind::BoundingPolygon { .. })
+}
+
+/// The square of a degree, in the place of a polygon.
+fn square() -> Area {
+    Area::Box {
+        left: 0,
+        right: 1_000_000_000,
+        top: 1_000_000_000,
+        bottom: 0,
+    }
+}
+
 /// A source of a row's file.
 fn source_of<R: Abort + AllocGlobal>(rt: &R, row: &Row) -> MemorySource {
     let mut files = Files::new(rt.alloc());
@@ -359,7 +393,11 @@ pub(crate) fn machine_of<R: Abort + AllocGlobal>(rt: &R, row: &Row) -> Driven {
 /// A machine of a task, with the device that it needs.
 fn machine_with<R: Abort + AllocGlobal>(rt: &R, task: &Task, row: &Row) -> Driven {
     let kind = &task.kind;
-    assert!(rt; is_built(kind));
+    let area = if has_polygon(kind) {
+        Some(square())
+    } else {
+        None
+    };
     let source = if reads(kind) {
         Some(source_of(rt, row))
     } else {
@@ -370,7 +408,7 @@ fn machine_with<R: Abort + AllocGlobal>(rt: &R, task: &Task, row: &Row) -> Drive
     } else {
         None
     };
-    make(rt.alloc(), task, source, sink).expect(rt, "a machine")
+    make(rt.alloc(), task, area, source, sink).expect(rt, "a machine")
 }
 
 /// The item of a line.

@@ -8,11 +8,12 @@ use Rattle.osm_machine.specs.Emptying.{dropping}
 use Rattle.osm_machine.specs.Writing.{writing}
 use Rattle.osm_merge.specs.Append.{appending}
 use Rattle.osm_merge.specs.Merging.{merging}
+use Rattle.osm_select.specs.Selecting.{selecting}
 use Rattle.osm_sort.specs.SortMachine.{sorting}
 use Rattle.osm_used.specs.Using.{keeping_used}
 use Rattle.osm_machine.specs.MachineKinds.{machines}
-use Rattle.osm_machine.specs.declared.kind.MachineKind.TheVariants.{Write, Drops, Copies, Filters, UsesNodes, UsesWays, Sorts, Merges, Appends, Applies, Simplifies}
-use Rattle.osm_machine.proofs.MachineParts.{appends_part, applies_part, copies_part, drops_part, filters_part, merges_part, simplifies_part, sorts_part, uses_nodes_part, uses_ways_part, write_part}
+use Rattle.osm_machine.specs.declared.kind.MachineKind.TheVariants.{Write, Drops, Copies, Filters, UsesNodes, UsesWays, Sorts, Merges, Appends, Applies, Selects, Simplifies}
+use Rattle.osm_machine.proofs.MachineParts.{appends_part, applies_part, copies_part, drops_part, filters_part, merges_part, selects_part, simplifies_part, sorts_part, uses_nodes_part, uses_ways_part, write_part}
 use Rattle.osm_machine.proofs.ResultLemmas.{OnErr-weaker, OnOk-always, OnOk-weaker}
 use Rattle.osm_machine.proofs.SumLemmas.{part_stops_in_take, part_takes}
 use Rattle.osm_machine.proofs.kind.MachineKind.accept.Goals as goal
@@ -80,3 +81,11 @@ returns-in-Simplifies-clause-takes g c = rw c.in-Simplifies.is (OnOk-weaker c.ac
 pub returns-in-Simplifies-clause-stops : goal.returns-in-Simplifies-clause-stops
 returns-in-Simplifies-clause-stops g c = rw c.in-Simplifies.is (OnErr-weaker c.accept-in-Simplifies.result
     (λ stops. part_stops_in_take (meanings_of simplifying) machines Simplifies simplifies_part c.args.port c.args.message _ _ stops) c.accept-in-Simplifies.ensures.stops)
+
+pub returns-in-Selects-clause-takes : goal.returns-in-Selects-clause-takes
+returns-in-Selects-clause-takes g c = rw c.in-Selects.is (OnOk-weaker c.accept-in-Selects.result
+    (λ takes. part_takes (meanings_of selecting) machines Selects selects_part c.args.port c.args.message _ _ takes) c.accept-in-Selects.ensures.takes)
+
+pub returns-in-Selects-clause-stops : goal.returns-in-Selects-clause-stops
+returns-in-Selects-clause-stops g c = rw c.in-Selects.is (OnErr-weaker c.accept-in-Selects.result
+    (λ stops. part_stops_in_take (meanings_of selecting) machines Selects selects_part c.args.port c.args.message _ _ stops) c.accept-in-Selects.ensures.stops)

@@ -10,11 +10,12 @@ use Rattle.osm_machine.specs.Making.{making}
 use Rattle.osm_machine.specs.Reading.{reading}
 use Rattle.osm_merge.specs.Append.{appending}
 use Rattle.osm_merge.specs.Merging.{merging}
+use Rattle.osm_select.specs.Selecting.{selecting}
 use Rattle.osm_sort.specs.SortMachine.{sorting}
 use Rattle.osm_used.specs.Using.{keeping_used}
 use Rattle.osm_machine.specs.MachineKinds.{machines}
-use Rattle.osm_machine.specs.declared.kind.MachineKind.TheVariants.{Read, Make, Nothing, Copies, Filters, UsesNodes, UsesWays, Sorts, Merges, Appends, Applies, Simplifies}
-use Rattle.osm_machine.proofs.MachineParts.{appends_part, applies_part, copies_part, filters_part, make_part, merges_part, nothing_part, read_part, simplifies_part, sorts_part, uses_nodes_part, uses_ways_part}
+use Rattle.osm_machine.specs.declared.kind.MachineKind.TheVariants.{Read, Make, Nothing, Copies, Filters, UsesNodes, UsesWays, Sorts, Merges, Appends, Applies, Selects, Simplifies}
+use Rattle.osm_machine.proofs.MachineParts.{appends_part, applies_part, copies_part, filters_part, make_part, merges_part, nothing_part, read_part, selects_part, simplifies_part, sorts_part, uses_nodes_part, uses_ways_part}
 use Rattle.osm_machine.proofs.ResultLemmas.{OnErr-weaker}
 use Rattle.osm_machine.proofs.SumLemmas.{part_gives, part_stops_in_give}
 use Rattle.osm_machine.proofs.kind.MachineKind.hand.Goals as goal
@@ -78,3 +79,7 @@ returns-in-Applies-clause-gives g c = rw c.in-Applies.is (part_gives (meanings_o
 pub returns-in-Simplifies-clause-gives : goal.returns-in-Simplifies-clause-gives
 returns-in-Simplifies-clause-gives g c = rw c.in-Simplifies.is (part_gives (meanings_of simplifying) machines Simplifies simplifies_part c.args.port c.hand-in-Simplifies.result _ _
     c.hand-in-Simplifies.ensures.gives)
+
+pub returns-in-Selects-clause-gives : goal.returns-in-Selects-clause-gives
+returns-in-Selects-clause-gives g c = rw c.in-Selects.is (part_gives (meanings_of selecting) machines Selects selects_part c.args.port c.hand-in-Selects.result _ _
+    c.hand-in-Selects.ensures.gives)
