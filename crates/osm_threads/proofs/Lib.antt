@@ -1,7 +1,10 @@
+pub mod BackLemmas
 pub mod GateLemmas
+pub mod PipeLemmas
 pub mod PortLemmas
 pub mod ReadyLemmas
 pub mod RowLemmas
 pub mod RunLemmas
 pub mod StartLemmas
 pub mod TaskLemmas
+pub mod UnmovedLemmas

@@ -1,166 +1,32 @@
 -- From what is back and has met to what a run promises.
-use Rattle.std.proofs.Common.{◌≡◌, ℕ, zero, suc, ◌<◌, ◌≤◌, ◌==◌, List, [], ◌∷◌, ◌++◌, length, get_or, take, Bool, true, false, ◌&&◌, not, Option, Some, None, refl, sym, ap, subst, ◌∙◌, arith}
+use Rattle.std.proofs.Common.{◌≡◌, ℕ, ◌<◌, List, [], ◌∷◌, ◌++◌, length, get_or, take, Bool, true, false, not, Option, Some, None, refl, sym, ap, subst, ◌∙◌, arith}
 use Rattle.std.specs.List.{AllZip}
 use Rattle.std.proofs.Math.Path.{fun_ext}
-use Rattle.std.proofs.lemmas.Bool.{and_parts}
-use Rattle.std.proofs.lemmas.List.{length-append, length-map, map-append}
-use Rattle.osm_entity.specs.Machines.{AreLawful, Given, IsBehind, IsSameTask, Meanings, StandsFor, nothing_given}
+use Rattle.std.proofs.lemmas.List.{length-append, length-map}
+use Rattle.osm_entity.specs.Machines.{AreLawful, Given, IsBehind, Meanings, StandsFor}
 use Rattle.osm_entity.specs.Ports.{Ports}
 use Rattle.osm_entity.specs.Prefixes.{IsPrefix}
 use Rattle.osm_entity.specs.Tasks.{TaskMeaning}
 use Rattle.osm_entity.specs.declared.stream.Message.{Message}
-use Rattle.osm_entity.specs.declared.stream.Want.TheVariants.{Ended}
 use Rattle.osm_graph.specs.Pipes.{IsWholeGraph, pipe_into, pipe_of, pipe_out}
 use Rattle.osm_graph.specs.declared.pipe.Pipe.{Pipe}
-use Rattle.osm_net.specs.Histories.{gave_by, messages_taken, new_history, took_by}
+use Rattle.osm_net.specs.Histories.{gave_by, messages_taken, took_by}
 use Rattle.osm_net.specs.Meaning.{at_pipe}
-use Rattle.osm_net.specs.Nets.{AllEnded, AreBehind, AreStanding, IsGraphOf, IsOrderly}
-use Rattle.osm_net.specs.Runs.{AreNewMachines, AreRun, IsRunOf, KeepNames}
+use Rattle.osm_net.specs.Nets.{AreBehind, AreStanding, IsGraphOf, IsOrderly}
+use Rattle.osm_net.specs.Runs.{AreNewMachines, AreRun, IsRunOf}
 use Rattle.osm_net.proofs.MeaningLemmas.{into_is, out_is}
-use Rattle.osm_net.proofs.MoveLemmas.{new_stands}
-use Rattle.osm_net.proofs.RunLemmas.{ended_run, from_known, standing_behind, stopped_run}
+use Rattle.osm_net.proofs.RunLemmas.{ended_run, from_known, stopped_run}
 use Rattle.osm_pipe.specs.Pipes.{HalfValue, PipeId}
 use Rattle.osm_threads.specs.Meetings.{AreApart, MayAllMeet}
-use Rattle.osm_threads.specs.Ports.{PortHalf, in_row, is_shut, messages_at, passed_at, pipe_at}
+use Rattle.osm_threads.specs.Ports.{PortHalf, is_shut, messages_at, passed_at, pipe_at}
 use Rattle.osm_threads.specs.Rows.{AreJoined, HaveMet, giving_end, half_at, inlets_of, outlets_of, taking_end}
 use Rattle.osm_threads.specs.Running.{are_whole, history_told, machines_back, machines_started, ports_back, ports_started}
 use Rattle.osm_threads.specs.Starts.{IsBackOf}
 use Rattle.osm_threads.specs.declared.ports.TaskPorts.{TaskPorts}
 use Rattle.osm_threads.specs.declared.starts.Back.{Back}
 use Rattle.osm_threads.specs.declared.starts.Start.{Start}
-use Rattle.osm_threads.proofs.PortLemmas.{pipe_there}
 use Rattle.osm_threads.proofs.ReadyLemmas.{apart_by}
-
--- ---- one more is back
-
-pub machines_back_more : {M : Type 0} (backs : List (Back M)) (back : Back M) →
-    machines_back (backs ++ back ∷ []) ≡ machines_back backs ++ back.machine ∷ []
-machines_back_more backs back = map-append (λ (b : Back _). b.machine) backs (back ∷ [])
-
-pub ports_back_more : {M : Type 0} (backs : List (Back M)) (back : Back M) →
-    ports_back (backs ++ back ∷ []) ≡ ports_back backs ++ back.ports ∷ []
-ports_back_more backs back = map-append (λ (b : Back _). b.ports) backs (back ∷ [])
-
-and_true : (b : Bool) → b && true ≡ b
-and_true true = refl
-and_true false = refl
-
-and_onward : (a b c : Bool) → a && (b && c) ≡ (a && b) && c
-and_onward true b c = refl
-and_onward false b c = refl
-
-pub whole_more : {M : Type 0} (backs : List (Back M)) (back : Back M) →
-    are_whole (backs ++ back ∷ []) ≡ are_whole backs && back.whole
-whole_more [] back = and_true back.whole
-whole_more (b ∷ backs) back = ap (λ rest. b.whole && rest) (whole_more backs back)
-    ∙ and_onward b.whole (are_whole backs) back.whole
-
--- ---- what is back of each task
-
-module _ {M N : Type 0} (of : Meanings M) (names : M → N) (all : Bool) where
-  -- the pipes are where they were
-  pub inlets_back : (starts : List (Start M)) (backs : List (Back M)) (task port : ℕ) →
-      AllZip (IsBackOf of names all) starts backs →
-      pipe_at (half_at (inlets_of (ports_back backs)) task port)
-      ≡ pipe_at (half_at (inlets_of (ports_started starts)) task port)
-  inlets_back [] [] task port pairs = refl
-  inlets_back [] (b ∷ backs) task port pairs = absurd pairs
-  inlets_back (s ∷ starts) [] task port pairs = absurd pairs
-  inlets_back (s ∷ starts) (b ∷ backs) zero port pairs =
-      pipe_there b.ports.inlets.items s.job.ports.inlets.items port pairs.0.pipes.inlets
-  inlets_back (s ∷ starts) (b ∷ backs) (suc task) port pairs = inlets_back starts backs task port pairs.1
-
-  pub outlets_back : (starts : List (Start M)) (backs : List (Back M)) (task port : ℕ) →
-      AllZip (IsBackOf of names all) starts backs →
-      pipe_at (half_at (outlets_of (ports_back backs)) task port)
-      ≡ pipe_at (half_at (outlets_of (ports_started starts)) task port)
-  outlets_back [] [] task port pairs = refl
-  outlets_back [] (b ∷ backs) task port pairs = absurd pairs
-  outlets_back (s ∷ starts) [] task port pairs = absurd pairs
-  outlets_back (s ∷ starts) (b ∷ backs) zero port pairs =
-      pipe_there b.ports.outlets.items s.job.ports.outlets.items port pairs.0.pipes.outlets
-  outlets_back (s ∷ starts) (b ∷ backs) (suc task) port pairs = outlets_back starts backs task port pairs.1
-
-  pub same_back : (starts : List (Start M)) (backs : List (Back M)) (t : ℕ) (d : M) →
-      AllZip (IsBackOf of names all) starts backs →
-      IsSameTask of (get_or (machines_started starts) t d) (get_or (machines_back backs) t d)
-  same_back [] [] t d pairs = refl
-  same_back [] (b ∷ backs) t d pairs = absurd pairs
-  same_back (s ∷ starts) [] t d pairs = absurd pairs
-  same_back (s ∷ starts) (b ∷ backs) zero d pairs = pairs.0.same
-  same_back (s ∷ starts) (b ∷ backs) (suc t) d pairs = same_back starts backs t d pairs.1
-
-  pub named_back : (starts : List (Start M)) (backs : List (Back M)) (t : ℕ) (d : M) →
-      AllZip (IsBackOf of names all) starts backs →
-      names (get_or (machines_back backs) t d) ≡ names (get_or (machines_started starts) t d)
-  named_back [] [] t d pairs = refl
-  named_back [] (b ∷ backs) t d pairs = absurd pairs
-  named_back (s ∷ starts) [] t d pairs = absurd pairs
-  named_back (s ∷ starts) (b ∷ backs) zero d pairs = pairs.0.named
-  named_back (s ∷ starts) (b ∷ backs) (suc t) d pairs = named_back starts backs t d pairs.1
-
-  pub count_back : (starts : List (Start M)) (backs : List (Back M)) → AllZip (IsBackOf of names all) starts backs →
-      length (machines_back backs) ≡ length (machines_started starts)
-  count_back [] [] pairs = refl
-  count_back [] (b ∷ backs) pairs = absurd pairs
-  count_back (s ∷ starts) [] pairs = absurd pairs
-  count_back (s ∷ starts) (b ∷ backs) pairs = ap suc (count_back starts backs pairs.1)
-
--- machines that stayed are the machines that were started
-pub stayed_machines : {M N : Type 0} (of : Meanings M) (names : M → N) (starts : List (Start M)) (backs : List (Back M)) →
-    AllZip (IsBackOf of names false) starts backs → machines_back backs ≡ machines_started starts
-stayed_machines of names [] [] pairs = refl
-stayed_machines of names [] (b ∷ backs) pairs = absurd pairs
-stayed_machines of names (s ∷ starts) [] pairs = absurd pairs
-stayed_machines of names (s ∷ starts) (b ∷ backs) pairs = ap (λ m. m ∷ machines_back backs) (pairs.0.stayed refl)
-    ∙ ap (λ ms. s.job.machine ∷ ms) (stayed_machines of names starts backs pairs.1)
-
--- what is known of a task whose machine has worked, by its number
-record IsAt {M : Type 0} (of : Meanings M) (made m : M) (ins outs : List PortHalf) (whole : Bool) (given : Given M)
-    : Type 0 where
-  made_is : given.made ≡ made
-  behind : IsBehind of m (messages_at ins) (messages_at outs) given
-  ended : whole ≡ true → of.wanted m ≡ Ended
-  stands : whole ≡ true → StandsFor of m (messages_at ins) (messages_at outs) given
-  closed : (port : ℕ) → port < (of.task m).outputs → is_shut (in_row outs port) ≡ true
-
-module _ {M N : Type 0} (of : Meanings M) (names : M → N) where
-  -- what came of the source of each task
-  given_back : (d : M) (starts : List (Start M)) (backs : List (Back M)) →
-      AllZip (IsBackOf of names true) starts backs → ℕ → Given M
-  given_back d [] [] pairs t = nothing_given d
-  given_back d [] (b ∷ backs) pairs t = absurd pairs
-  given_back d (s ∷ starts) [] pairs t = absurd pairs
-  given_back d (s ∷ starts) (b ∷ backs) pairs zero = (pairs.0.worked refl).given
-  given_back d (s ∷ starts) (b ∷ backs) pairs (suc t) = given_back d starts backs pairs.1 t
-
-  is_at : (d : M) (starts : List (Start M)) (backs : List (Back M)) →
-      (pairs : AllZip (IsBackOf of names true) starts backs) → (t : ℕ) → t < length (machines_started starts) →
-      IsAt of (get_or (machines_started starts) t d) (get_or (machines_back backs) t d)
-      (get_or (inlets_of (ports_back backs)) t []) (get_or (outlets_of (ports_back backs)) t []) (are_whole backs)
-      (given_back d starts backs pairs t)
-  unfolding given_back
-  is_at d [] [] pairs t known = absurd (omega (arith, known))
-  is_at d [] (b ∷ backs) pairs t known = absurd pairs
-  is_at d (s ∷ starts) [] pairs t known = absurd pairs
-  is_at d (s ∷ starts) (b ∷ backs) pairs zero known =
-      let worked = pairs.0.worked refl in
-      record {
-        made_is = worked.made_is;
-        behind = worked.behind;
-        ended = λ whole. worked.ended (and_parts b.whole (are_whole backs) whole).0;
-        stands = λ whole. worked.stands (and_parts b.whole (are_whole backs) whole).0;
-        closed = worked.closed;
-      }
-  is_at d (s ∷ starts) (b ∷ backs) pairs (suc t) known =
-      let rest = is_at d starts backs pairs.1 t (omega (arith, known)) in
-      record {
-        made_is = rest.made_is;
-        behind = rest.behind;
-        ended = λ whole. rest.ended (and_parts b.whole (are_whole backs) whole).1;
-        stands = λ whole. rest.stands (and_parts b.whole (are_whole backs) whole).1;
-        closed = rest.closed;
-      }
+use Rattle.osm_threads.proofs.BackLemmas.{count_back, given_back, inlets_back, is_at, outlets_back, same_back}
 
 -- ---- the history that the halves tell
 
@@ -259,10 +125,6 @@ regraph tasks i o i' o' pipes ins outs graph = record {
   into = λ t port known less. let same = ins t known in graph.into t port known (omega (arith, less, same));
   out = λ t port known less. let same = outs t known in graph.out t port known (omega (arith, less, same));
 }
-
-pub not_not : (b : Bool) → not b ≡ false → b ≡ true
-not_not true is = refl
-not_not false is = cc
 
 module _ {M N : Type 0} (of : Meanings M) (laws : AreLawful of) (names : M → N) (pipes : List Pipe)
     (starts : List (Start M)) (backs : List (Back M)) (pairs : AllZip (IsBackOf of names true) starts backs)
@@ -381,67 +243,3 @@ module _ {M N : Type 0} (of : Meanings M) (laws : AreLawful of) (names : M → N
       subst (λ ms. AreRun of pipes (machines_started starts) ms memory) (sym back)
       (subst (AreRun of pipes (machines_started starts) (machines_back backs)) (sym wanted)
       (met_run (subst (λ (ts : List TaskPorts). HaveMet pipes (length pipes) (inlets_of ts) (outlets_of ts)) are met)))
-
--- names are kept by all that are back
-pub names_back : {M N : Type 0} (of : Meanings M) (names : M → N) (all : Bool) (starts : List (Start M))
-    (backs : List (Back M)) (machines : List M) → AllZip (IsBackOf of names all) starts backs →
-    machines ≡ machines_back backs → KeepNames names (machines_started starts) machines
-names_back of names all starts backs machines pairs are =
-    subst (KeepNames names (machines_started starts)) (sym are)
-    (λ t d known. named_back of names all starts backs t d pairs)
-
--- ---- machines that don't move
-
--- the first of some machines
-pub first_of : {M : Type 0} (starts : List (Start M)) → 0 < length starts → M
-first_of [] some = absurd (omega (arith, some))
-first_of (start ∷ starts) some = start.job.machine
-
--- a number that isn't 0
-pub some_by : (n : ℕ) → n == 0 ≡ false → 0 < n
-some_by zero is = absurd cc
-some_by (suc n) is = omega arith
-
-first_machine : {M : Type 0} (machines : List M) → 0 < length machines → M
-first_machine [] some = absurd (omega (arith, some))
-first_machine (m ∷ machines) some = m
-
--- the pipes of new machines are apart
-pub apart_new : {M : Type 0} (of : Meanings M) (pipes : List Pipe) (machines : List M) (count : ℕ) →
-    AreNewMachines of pipes machines → count ≡ length machines → 0 < length machines → AreApart pipes count
-apart_new of pipes machines count new is some =
-    let d = first_machine machines some in
-    subst (AreApart pipes) (sym is)
-    (apart_by (length machines) (λ t. (of.task (get_or machines t d)).inputs)
-    (λ t. (of.task (get_or machines t d)).outputs) pipes (new d).graph)
-
-module _ {M : Type 0} (of : Meanings M) (laws : AreLawful of) (pipes : List Pipe) (machines : List M)
-    (new : AreNewMachines of pipes machines) where
-  standing : (d : M) → AreStanding of (length machines) pipes (λ t. get_or machines t d)
-      (new_history (λ t. get_or machines t d))
-  standing d = (new_stands of (length machines) pipes (λ t. get_or machines t d) (new d)).machines
-
-  -- new machines that don't move, out of memory
-  pub new_run : AreRun of pipes machines machines true
-  new_run = record {
-    count = refl;
-    same = λ t d known. refl;
-    history = λ d. new_history (λ t. get_or machines t d);
-    made = λ t d known. refl;
-    run = λ d. stopped_run of laws (length machines) pipes (λ t. get_or machines t d) (new d).graph
-        (new_history (λ t. get_or machines t d))
-        (standing_behind of laws (length machines) pipes (λ t. get_or machines t d) (new d).graph
-        (new_history (λ t. get_or machines t d)) (standing d));
-  }
-
-  -- no machine: all have ended
-  pub none_run : machines ≡ [] → AreRun of pipes machines machines false
-  none_run none = record {
-    count = refl;
-    same = λ t d known. refl;
-    history = λ d. new_history (λ t. get_or machines t d);
-    made = λ t d known. refl;
-    run = λ d. ended_run of laws (length machines) pipes (λ t. get_or machines t d) (new d).graph
-        (new_history (λ t. get_or machines t d)) (standing d)
-        (λ t known. absurd (let long = ap length none in omega (arith, known, long)));
-  }

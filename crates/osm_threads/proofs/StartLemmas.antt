@@ -1,5 +1,5 @@
 -- Lemmas on starts, gates and what is back, one more at a time.
-use Rattle.std.proofs.Common.{◌≡◌, ◌+◌, List, [], ◌∷◌, ◌++◌, map, Bool, true, false, Some, refl, sym, ap, subst, ◌∙◌}
+use Rattle.std.proofs.Common.{◌≡◌, List, [], ◌∷◌, ◌++◌, map, Bool, true, false, Some, refl, sym, ap, subst, ◌∙◌}
 use Rattle.std.specs.Prelude.{All}
 use Rattle.std.specs.List.{AllZip}
 use Rattle.std.proofs.lemmas.List.{map-append}
@@ -29,7 +29,7 @@ zip_push R (a ∷ xs) [] x y pairs last = absurd pairs
 zip_push R (a ∷ xs) (b ∷ ys) x y pairs last = (pairs.0, zip_push R xs ys x y pairs.1 last)
 
 -- what is at the end of a list
-pub snoc_parts : {A : Type 0} (xs ys : List A) (x y : A) → xs ++ x ∷ [] ≡ ys ++ y ∷ [] → (xs ≡ ys) × (x ≡ y)
+snoc_parts : {A : Type 0} (xs ys : List A) (x y : A) → xs ++ x ∷ [] ≡ ys ++ y ∷ [] → (xs ≡ ys) × (x ≡ y)
 snoc_parts [] [] x y same = (refl, cc)
 snoc_parts [] (b ∷ []) x y same = absurd cc
 snoc_parts [] (b ∷ c ∷ ys) x y same = absurd cc
@@ -45,6 +45,13 @@ snoc_parts (a ∷ xs) (b ∷ ys) x y same =
 pub words_more : (end : End) (gates : List HalfValue) (pipe : PipeId) →
     map (told_by end) (gates ++ half pipe [] ∷ []) ≡ map (told_by end) gates ++ half pipe (Last end ∷ []) ∷ []
 words_more end gates pipe = map-append (told_by end) gates (half pipe [] ∷ [])
+
+-- the last of the words of some gates is what its gate was told
+pub last_told : (end : End) (words rest others : List HalfValue) (word : HalfValue) (pipe : PipeId) →
+    words ≡ rest ++ word ∷ [] → words ≡ map (told_by end) others ++ half pipe (Last end ∷ []) ∷ [] →
+    word.list ≡ Last end ∷ []
+last_told end words rest others word pipe split told = ap (λ (h : HalfValue). h.list)
+    (snoc_parts rest (map (told_by end) others) word (half pipe (Last end ∷ [])) (sym split ∙ told)).1
 
 -- what was taken at a gate is what it was told
 heard_is : (m : Message) (end : End) → Meets (m ∷ []) (Last end ∷ []) → m ≡ Last end

@@ -1,10 +1,10 @@
 -- Lemmas on a machine at work over its ports, step by step.
-use Rattle.std.proofs.Common.{◌≡◌, ℕ, ◌<◌, Bool, true, false, Some, None, refl, sym, ap, subst, ◌∙◌}
+use Rattle.std.proofs.Common.{◌≡◌, ℕ, Bool, true, false, Some, None, refl, sym, ap, subst, ◌∙◌}
 use Rattle.std.specs.Prelude.{IsSome}
 use Rattle.std.proofs.lemmas.Bool.{cond-false, cond-true}
 use Rattle.osm_entity.specs.Calls.{Gives, Pulls, StopsInGive, StopsInPull, StopsInTake, Takes}
 use Rattle.osm_entity.specs.Machines.{AreLawful, HasEnded, IsBehind, IsSameTask, MayGive, MayTake, MayWant, Meanings, StandsFor, nothing_given, with_piece}
-use Rattle.osm_entity.specs.Ports.{Ports, added, has_end, no_messages, stream_of, streams}
+use Rattle.osm_entity.specs.Ports.{Ports, added, has_end, no_messages, stream_of}
 use Rattle.osm_entity.specs.Tasks.{TaskMeaning}
 use Rattle.osm_entity.specs.declared.stream.End.TheVariants.{Broken}
 use Rattle.osm_entity.specs.declared.stream.Message.{Message}

@@ -147,7 +147,7 @@ pub fn bare_tasks(alloc: Global, count: usize) -> Result<Vec<TaskPorts>, NoMemor
 }
 
 /// Makes each pipe of a graph, and puts its halves at their ports.
-#[tactic(auto, using(crate::proofs::RowLemmas::none_made, crate::proofs::RowLemmas::next_from, crate::proofs::RowLemmas::next_to, crate::proofs::RowLemmas::next_room))]
+#[tactic(auto, using(crate::proofs::PipeLemmas::none_made))]
 pub fn join_all<R: Wait>(
     rt: &R,
     alloc: Global,

@@ -33,7 +33,7 @@ fn taken_in_row(inlets: &mut Vec<Inlet>, port: u32) -> Taken
 }
 
 /// Takes what was sent away from a port of a task.
-#[tactic(auto, using(crate::proofs::RowLemmas::outlets_at, crate::proofs::RowLemmas::outlets_put, crate::proofs::RowLemmas::inlets_same))]
+#[tactic(auto, using(crate::proofs::RowLemmas::outlets_at, crate::proofs::RowLemmas::inlets_same))]
 fn sent_of(tasks: &mut Vec<TaskPorts>, task: u32, port: u32) -> Sent
     requires exists { task < vec_len tasks.old }
     requires there { IsSome (half_at (outlets_of tasks.old.items) task port) }
@@ -48,7 +48,7 @@ fn sent_of(tasks: &mut Vec<TaskPorts>, task: u32, port: u32) -> Sent
 }
 
 /// Takes what was taken away from a port of a task.
-#[tactic(auto, using(crate::proofs::RowLemmas::inlets_at, crate::proofs::RowLemmas::inlets_put, crate::proofs::RowLemmas::outlets_same))]
+#[tactic(auto, using(crate::proofs::RowLemmas::inlets_at, crate::proofs::RowLemmas::outlets_same))]
 fn taken_of(tasks: &mut Vec<TaskPorts>, task: u32, port: u32) -> Taken
     requires exists { task < vec_len tasks.old }
     requires there { IsSome (half_at (inlets_of tasks.old.items) task port) }
@@ -62,7 +62,6 @@ fn taken_of(tasks: &mut Vec<TaskPorts>, task: u32, port: u32) -> Taken
 }
 
 /// Joins the two halves of each pipe.
-#[tactic(auto, using(crate::proofs::RowLemmas::next_from, crate::proofs::RowLemmas::next_to, crate::proofs::RowLemmas::sent_there, crate::proofs::RowLemmas::sent_shut, crate::proofs::RowLemmas::taken_there, crate::proofs::RowLemmas::one_pipe))]
 pub fn meet_all<R: Wait>(rt: &R, pipes: &[Pipe], mut tasks: Vec<TaskPorts>)
     requires apart { AreApart pipes.now (vec_len tasks) }
     requires may { MayAllMeet pipes.now (inlets_of tasks.items) (outlets_of tasks.items) }

@@ -66,7 +66,7 @@ fn make_parts<M: Drop, R: Wait>(
 }
 
 /// Parts what is back into the machines and their ports: whether all have ended.
-#[tactic(auto, using(crate::proofs::RunLemmas::machines_back_more, crate::proofs::RunLemmas::ports_back_more, crate::proofs::RunLemmas::whole_more))]
+#[tactic(auto, using(crate::proofs::BackLemmas::machines_back_more, crate::proofs::BackLemmas::ports_back_more, crate::proofs::BackLemmas::whole_more))]
 fn take_apart<M: Drop>(
     mut backs: Vec<Back<M>>,
     machines: &mut Vec<M>,

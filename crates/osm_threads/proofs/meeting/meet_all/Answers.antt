@@ -1,6 +1,6 @@
 use Rattle.std.proofs.Common.{arith, vec_len, ◌∙◌}
 use Rattle.osm_threads.specs.Rows.{inlets_of, outlets_of}
-use Rattle.osm_threads.proofs.RowLemmas.{met_next}
+use Rattle.osm_threads.proofs.PipeLemmas.{met_next}
 use Rattle.osm_threads.proofs.meeting.meet_all.Goals as goal
 
 pub loop-pipe-preserved : goal.loop-pipe-preserved

@@ -1,4 +1,4 @@
-use Rattle.osm_threads.proofs.RunLemmas.{none_run}
+use Rattle.osm_threads.proofs.UnmovedLemmas.{none_run}
 use Rattle.osm_threads.proofs.running.finish_none.Goals as goal
 
 pub returns-clause-run : goal.returns-clause-run

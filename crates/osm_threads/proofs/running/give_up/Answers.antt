@@ -1,4 +1,4 @@
-use Rattle.osm_threads.proofs.RunLemmas.{new_run}
+use Rattle.osm_threads.proofs.UnmovedLemmas.{new_run}
 use Rattle.osm_threads.proofs.running.give_up.Goals as goal
 
 pub returns-clause-run : goal.returns-clause-run

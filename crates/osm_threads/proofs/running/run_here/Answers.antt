@@ -1,7 +1,7 @@
 use Rattle.std.proofs.Common.{length, subst, sym, ◌≤◌, ◌∙◌}
 use Rattle.osm_graph.specs.Graphs.{most_joined_tasks}
 use Rattle.osm_net.specs.Runs.{AreNewMachines, AreRun, KeepNames}
-use Rattle.osm_threads.proofs.RunLemmas.{stayed_machines}
+use Rattle.osm_threads.proofs.BackLemmas.{stayed_machines}
 use Rattle.osm_threads.proofs.running.run_here.Goals as goal
 
 pub run_counted-requires-clause-tasks : goal.run_counted-requires-clause-tasks

@@ -1,5 +1,5 @@
 use Rattle.std.proofs.Common.{arith, sym, vec_len, ◌∙◌}
-use Rattle.osm_threads.proofs.RunLemmas.{apart_new, some_by}
+use Rattle.osm_threads.proofs.UnmovedLemmas.{apart_new, some_by}
 use Rattle.osm_threads.proofs.running.run_tasks.Goals as goal
 
 pub make_parts-requires-clause-apart : goal.make_parts-requires-clause-apart

@@ -1,5 +1,7 @@
 use Rattle.std.proofs.Common.{arith, true, vec_len}
-use Rattle.osm_threads.proofs.RunLemmas.{apart_back, first_of, may_meet_of, names_back, settled}
+use Rattle.osm_threads.proofs.BackLemmas.{names_back}
+use Rattle.osm_threads.proofs.RunLemmas.{apart_back, may_meet_of, settled}
+use Rattle.osm_threads.proofs.UnmovedLemmas.{first_of}
 use Rattle.osm_threads.proofs.running.settle.Goals as goal
 
 pub meet_all-requires-clause-apart : goal.meet_all-requires-clause-apart

@@ -1,4 +1,4 @@
-use Rattle.std.proofs.Common.{◌∙◌, ◌+◌, ap, arith, false}
+use Rattle.std.proofs.Common.{arith, false}
 use Rattle.osm_threads.specs.Homes.{gate_word}
 use Rattle.osm_threads.proofs.StartLemmas.{words_home, zip_more}
 use Rattle.osm_threads.proofs.starts.+fn-start_all-scope+start_all.Goals as goal
@@ -22,9 +22,9 @@ scope-returns-in-Ok g t c =
     let start = c.captures.start in (
       rw come.ensures.all (zip_more g.M.TaskMachine.of g.M.TaskMachine.names run.result.all c.captures.starts.items start
           run.result.backs.items come.new.run.backs.items run.ensures.backs (rw c.of-known.ensures at come.ensures.backs)),
-      come.ensures.count ∙ ap (λ n. n + 1) run.ensures.count,
+      (let more = come.ensures.count in let count = run.ensures.count in omega (arith, more, count)),
       rw come.ensures.all (rw c.of-others.ensures at come.ensures.words),
-      come.ensures.room ∙ run.ensures.room,
+      (let same = come.ensures.room in let room = run.ensures.room in omega (arith, same, room)),
     )
 
 pub scope-come_home-requires-in-Err : goal.scope-come_home-requires-in-Err
@@ -49,7 +49,7 @@ scope-returns-in-Err g t c =
       rw come.ensures.all (zip_more g.M.TaskMachine.of g.M.TaskMachine.names false c.captures.starts.items start
           backs.result.items come.new.run.backs.items backs.ensures.stayed
           (rw c.of-known.ensures at come.ensures.backs)),
-      come.ensures.count ∙ ap (λ n. n + 1) backs.ensures.count,
+      (let more = come.ensures.count in let count = backs.ensures.count in omega (arith, more, count)),
       rw come.ensures.all (rw c.of-others.ensures at come.ensures.words),
-      come.ensures.room ∙ backs.ensures.room,
+      (let same = come.ensures.room in let room = backs.ensures.room in omega (arith, same, room)),
     )
