@@ -2,7 +2,8 @@
 # examples; make test: the tests; make dist: packs what make install would put, for any x86-64 Linux with its C library.
 PREFIX ?= /usr/local
 DESTDIR ?=
-DOCUMENTS = README.md LICENSE docs/COMMANDS.md docs/MIRRORS.md docs/FROM-OSMOSIS.md docs/FORMATS.md docs/PROMISES.md
+DOCUMENTS = README.md LICENSE docs/COMMANDS.md docs/EXTRACTS.md docs/MIRRORS.md docs/FROM-OSMOSIS.md \
+	docs/FORMATS.md docs/PROMISES.md
 PAGES = $(DESTDIR)$(PREFIX)/share/doc/osm-tasks
 MANUALS = $(DESTDIR)$(PREFIX)/share/man/man1
 ARCHIVE = osm-tasks-x86_64-linux

@@ -1,5 +1,6 @@
 //! The words of the command line, as texts.
-ghost use Rattle.std.specs.Prelude.{◌≡◌, ◌++◌, ◌∷◌, [], IfOk, OnOk, OnErr, vec_len};
+ghost use Rattle.std.specs.Prelude.{◌≡◌, ◌++◌, ◌∷◌, [], IfNone, IfOk, IfSome, OnOk, OnErr, vec_len};
+ghost use Rattle.osm_cli.specs.ExitCode.{words_to_run};
 
 use osm_entity::{Sequence, Text, TextError};
 use std::alloc::Global;
@@ -20,6 +21,24 @@ pub fn read_words<R: Env + AllocGlobal>(rt: &R) -> Result<Sequence<Text>, TextEr
         }
     }
     Ok(words)
+}
+
+/// The words behind a first `-s`, which asks for a run on one thread. `None` where no such word is
+/// first.
+pub fn words_alone(words: &[Text]) -> Option<&[Text]>
+    ensures some { IfSome result (λ rest. words_to_run words.now ≡ rest.now) }
+    ensures none { IfNone result (words_to_run words.now ≡ words.now) }
+{
+    match words {
+        [first, rest @ ..] => {
+            if first.as_slice() == b"-s".as_slice() {
+                Some(rest)
+            } else {
+                None
+            }
+        }
+        [] => None,
+    }
 }
 
 // The word at this place, where 0 has the program's name. `None` after the last.

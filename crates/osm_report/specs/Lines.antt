@@ -13,7 +13,7 @@ use Rattle.osm_graph.specs.declared.fault.GraphError.TheVariants.{NoPipe, WrongT
 use Rattle.osm_report.specs.Places.{at_number, at_task, at_part, at_spot}
 use Rattle.osm_report.specs.Words.{cause_words, needed_words, call_words}
 use Rattle.osm_report.specs.declared.fault.Fault.{Fault}
-use Rattle.osm_report.specs.declared.fault.Fault.TheVariants.{Clean, Words, Task, Graph, Buffering, NotBuilt, Input, TooLong, Device, Memory}
+use Rattle.osm_report.specs.declared.fault.Fault.TheVariants.{Clean, Words, Task, Graph, Buffering, Input, TooLong, Device, Memory}
 
 -- the words of a run that is out of memory
 abbrev pub no_memory : List ℕ
@@ -70,7 +70,6 @@ said_words (Words error) = words_text error
 said_words (Task error) = task_text error
 said_words (Graph error) = graph_text error
 said_words (Buffering senses) = circle_text senses
-said_words (NotBuilt task) = at_task task (codes "not built")
 said_words (Input task cause spot) = at_spot task spot (cause_words cause)
 said_words (TooLong task) = at_task task (codes "input too long")
 said_words (Device task call) = at_task task (call_words call)

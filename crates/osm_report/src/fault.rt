@@ -33,8 +33,6 @@ pub enum Fault {
     Graph(GraphError),
     /// Its tasks can wait for each other forever, since the pipes of this circle hold only so much.
     Buffering(Circle),
-    /// A command that isn't built yet.
-    NotBuilt { task: u32 },
     /// The input of a task is wrong.
     Input { task: u32, cause: Cause, spot: Spot },
     /// A file gave more bytes than its limit, and those up to it are right.

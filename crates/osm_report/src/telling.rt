@@ -25,7 +25,6 @@ pub fn line(fault: &Fault) -> Line
         Fault::Task(error) => task_line(*error),
         Fault::Graph(error) => graph_line(*error),
         Fault::Buffering(circle) => circle_line(circle.as_slice()),
-        Fault::NotBuilt { task } => at_task(*task, "not built"),
         Fault::Input { task, cause, spot } => at_spot(*task, *spot, cause_words(*cause)),
         Fault::TooLong { task } => at_task(*task, "input too long"),
         Fault::Device { task, call } => at_task(*task, call_words(*call)),

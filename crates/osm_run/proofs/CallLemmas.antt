@@ -1,16 +1,15 @@
 -- Lemmas on the calls of a host: what each does to counts, to what was given, and to files.
-use Rattle.std.proofs.Common.{◌≡◌, ℕ, zero, suc, ◌+◌, ◌≤◌, List, [], ◌∷◌, ◌++◌, Bool, true, false, cond, ◌&&◌, ◌||◌, refl, sym, ap, subst, ◌∙◌, arith, inl, inr}
-use Rattle.std.specs.Prelude.{◌⊎◌, Option, Some, None, Ok, Err, ◌==◌, if◌then◌else◌, ◌<◌}
+use Rattle.std.proofs.Common.{◌≡◌, ℕ, zero, suc, ◌+◌, List, [], ◌∷◌, ◌++◌, Bool, true, false, cond, ◌&&◌, ◌||◌, refl, sym, ap, subst, ◌∙◌, arith, inl, inr}
+use Rattle.std.specs.Prelude.{◌⊎◌, Some, Ok, Err, ◌==◌}
 use Rattle.std.specs.FinMap as finite
 use Rattle.std.specs.FinMap.{get-insert}
 use Rattle.std.specs.Cmp.Lexicographic.{nat_list_cmp_total}
 use Rattle.std.specs.Str.{bytes_eq}
-use Rattle.std.specs.declared.result.Result.{Result}
 use Rattle.std.proofs.lemmas.Bool.{and_parts, eqb-true}
 use Rattle.std.proofs.lemmas.Map.Text.{is_eq-slice_cmp}
 use Rattle.std.proofs.lemmas.Slice.Eq.{bytes_eq-Decides}
 use Rattle.osm_host.specs.Contents.{Files}
-use Rattle.osm_host.specs.Counts.{Counts, SameCounts, CountsOfCall, CountsRefusal, Adds, raised, is_at, op_number}
+use Rattle.osm_host.specs.Counts.{Counts, SameCounts, CountsOfCall, raised, is_at, op_number}
 use Rattle.osm_host.specs.declared.outside.HostError.{HostError}
 use Rattle.osm_host.specs.declared.outside.HostError.TheVariants.{Failed, Memory}
 use Rattle.osm_host.specs.declared.outside.Op.{Op}

@@ -4,7 +4,7 @@ use Rattle.std.specs.Prelude.{flat_map, nat_lt, if◌then◌else◌}
 use Rattle.std.specs.List.{AllByRecursion}
 use Rattle.osm_host.specs.declared.outside.Op.TheVariants.{Open as OpenOp, Make, Put, Keep as KeepOp}
 use Rattle.osm_report.specs.declared.fault.Fault.{Fault}
-use Rattle.osm_report.specs.declared.fault.Fault.TheVariants.{Clean, Words, Task, Graph, Buffering, NotBuilt, Input, TooLong, Device, Memory}
+use Rattle.osm_report.specs.declared.fault.Fault.TheVariants.{Clean, Words, Task, Graph, Buffering, Input, TooLong, Device, Memory}
 use Rattle.osm_report.specs.declared.fault.DeviceCall.{DeviceCall}
 use Rattle.osm_report.specs.declared.fault.DeviceCall.TheVariants.{Open, Read, Write, Keep, Spill}
 use Rattle.osm_run.specs.Plan.{File, Polygon, Source, Store, Sink, Use, numbered, uses}
@@ -158,7 +158,6 @@ met_code (Words error) met = absurd (let no : false ≡ true = met in cc)
 met_code (Task error) met = absurd (let no : false ≡ true = met in cc)
 met_code (Graph error) met = absurd (let no : false ≡ true = met in cc)
 met_code (Buffering circle) met = absurd (let no : false ≡ true = met in cc)
-met_code (NotBuilt task) met = absurd (let no : false ≡ true = met in cc)
 met_code (Input task cause spot) met = (λ is. omega (arith, is), λ is. omega (arith, is))
 met_code (TooLong task) met = (λ is. omega (arith, is), λ is. omega (arith, is))
 met_code (Device task call) met = (λ is. omega (arith, is), λ is. omega (arith, is))

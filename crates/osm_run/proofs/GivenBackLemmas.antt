@@ -15,7 +15,7 @@ use Rattle.osm_run.specs.Opened.{IsOpenedWhere, IsSinkWhere, IsSourceWhere, Read
 use Rattle.osm_run.specs.Closed.{CanClose, CanCloseAll}
 use Rattle.osm_run.proofs.CountedLemmas.{all_among}
 use Rattle.osm_run.proofs.EachLemmas.{all_flat_map}
-use Rattle.osm_run.proofs.StoppedLemmas.{all_has}
+use Rattle.osm_run.proofs.NothingGivenLemmas.{all_has}
 use Rattle.osm_run.proofs.UsesLemmas.{by_plain, plain_at, use_at}
 use Rattle.osm_run.proofs.BeforeLemmas.{sinks_all, sources_all}
 

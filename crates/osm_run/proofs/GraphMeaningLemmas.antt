@@ -8,7 +8,7 @@ use Rattle.osm_net.specs.Meaning.{IsMeaning, Rules, at_pipe, no_stream, rules_of
 use Rattle.osm_net.proofs.MeaningLemmas.{into_is, streams_by_mean}
 use Rattle.osm_net.proofs.RunLemmas.{from_known}
 use Rattle.osm_tasks.specs.Tasks.{TaskValue}
-use Rattle.osm_run.specs.Commands.{AreTasksKept, courses_of, streams_of, task_meant}
+use Rattle.osm_run.specs.Commands.{Areas, AreTasksKept, courses_of, streams_of, task_meant}
 use Rattle.osm_run.proofs.KindLemmas.{inputs_meant, outputs_meant}
 
 some_of : (o : Option ℕ) → IsSome o → (p : ℕ) × (o ≡ Some p)
@@ -20,9 +20,10 @@ module _ (g : GraphValue) (graph : IsGraph g) where
   source_known = from_known (length g.tasks) (count_inputs g.tasks) (count_outputs g.tasks) g.pipes graph.whole
 
   -- the streams of a graph are its meaning
-  pub streams_are_meant : (bytes : ℕ → List ℕ) (clean : ℕ → Bool) →
-      IsMeaning g.pipes (rules_of (courses_of g.tasks bytes clean)) (streams_of g bytes clean)
-  streams_are_meant bytes clean = streams_by_mean (length g.tasks) g.pipes (rules_of (courses_of g.tasks bytes clean))
+  pub streams_are_meant : (areas : Areas) (bytes : ℕ → List ℕ) (clean : ℕ → Bool) →
+      IsMeaning g.pipes (rules_of (courses_of g.tasks areas bytes clean)) (streams_of g areas bytes clean)
+  streams_are_meant areas bytes clean = streams_by_mean (length g.tasks) g.pipes
+      (rules_of (courses_of g.tasks areas bytes clean))
       graph.whole.forward source_known
 
   -- a meaning by some rules is one by rules that are the same for the tasks of the graph
@@ -36,13 +37,13 @@ module _ (g : GraphValue) (graph : IsGraph g) where
   }
 
   -- at an input of a task of a graph is the stream of a pipe from an earlier task
-  pub input_at : (kept : AreTasksKept g.tasks) (streams : ℕ → Stream) (P : Stream → Type 0) (t : ℕ) →
+  pub input_at : (areas : Areas) (kept : AreTasksKept g.tasks) (streams : ℕ → Stream) (P : Stream → Type 0) (t : ℕ) →
       t < length g.tasks →
       ((q : ℕ) → q < length g.pipes → (pipe_of g.pipes q).from < t → P (streams q)) →
-      (port : ℕ) → port < (task_meant g.tasks t).inputs → P (streams_into g.pipes streams t port)
-  input_at kept streams P t known each port within =
-      let inputs : (task_meant g.tasks t).inputs ≡ count_inputs g.tasks t =
-      inputs_meant (get_or g.tasks t no_task).kind ∙ sym (kept t no_task known).inputs in
+      (port : ℕ) → port < (task_meant g.tasks areas t).inputs → P (streams_into g.pipes streams t port)
+  input_at areas kept streams P t known each port within =
+      let inputs : (task_meant g.tasks areas t).inputs ≡ count_inputs g.tasks t =
+      inputs_meant (get_or g.tasks t no_task).kind (areas t) ∙ sym (kept t no_task known).inputs in
       let there = some_of (pipe_into g.pipes t port)
       (graph.whole.into t port known (omega (arith, within, inputs))) in
       let at = into_is g.pipes t port there.0 there.1 in
@@ -51,10 +52,10 @@ module _ (g : GraphValue) (graph : IsGraph g) where
       (each there.0 at.known (omega (arith, ahead, at.task_is)))
 
 -- how many inputs and outputs tasks have that are kept
-pub inputs_are : (tasks : List TaskValue) → AreTasksKept tasks → (t : ℕ) → t < length tasks →
-    (task_meant tasks t).inputs ≡ count_inputs tasks t
-inputs_are tasks kept t known = inputs_meant (get_or tasks t no_task).kind ∙ sym (kept t no_task known).inputs
+pub inputs_are : (tasks : List TaskValue) (areas : Areas) → AreTasksKept tasks → (t : ℕ) → t < length tasks →
+    (task_meant tasks areas t).inputs ≡ count_inputs tasks t
+inputs_are tasks areas kept t known = inputs_meant (get_or tasks t no_task).kind (areas t) ∙ sym (kept t no_task known).inputs
 
-pub outputs_are : (tasks : List TaskValue) → AreTasksKept tasks → (t : ℕ) → t < length tasks →
-    (task_meant tasks t).outputs ≡ count_outputs tasks t
-outputs_are tasks kept t known = outputs_meant (get_or tasks t no_task).kind ∙ sym (kept t no_task known).outputs
+pub outputs_are : (tasks : List TaskValue) (areas : Areas) → AreTasksKept tasks → (t : ℕ) → t < length tasks →
+    (task_meant tasks areas t).outputs ≡ count_outputs tasks t
+outputs_are tasks areas kept t known = outputs_meant (get_or tasks t no_task).kind (areas t) ∙ sym (kept t no_task known).outputs

@@ -1,69 +1,59 @@
 -- What a graph says of the files of its tasks, and what kept files say of a run.
-use Rattle.std.proofs.Common.{◌≡◌, ℕ, suc, ◌<◌, ◌≤◌, List, [], ◌∷◌, ◌++◌, length, take, Bool, true, false, ◌&&◌, ◌||◌, refl, sym, ap, subst, ◌∙◌, arith, lt-ltb}
-use Rattle.std.specs.Prelude.{Contains, Option, Some, None, flat_map, get_or, nat_lt}
+use Rattle.std.proofs.Common.{◌≡◌, ℕ, ◌<◌, List, [], ◌∷◌, ◌++◌, length, take, Bool, true, false, ◌&&◌, ◌||◌, refl, sym, ap, subst, ◌∙◌, lt-ltb}
+use Rattle.std.specs.Prelude.{Contains, Option, Some, flat_map, nat_lt}
 use Rattle.std.specs.FinMap as finite
-use Rattle.std.specs.List.{AllByRecursion, enumerate_from, list_any}
+use Rattle.std.specs.List.{AllByRecursion, list_any}
 use Rattle.std.specs.Str.{bytes_eq}
-use Rattle.osm_entity.specs.Meaning.{Meaning}
-use Rattle.osm_graph.specs.Files.{clashes}
 use Rattle.osm_host.specs.Contents.{Files}
-use Rattle.osm_host.specs.Moments.{Moment}
 use Rattle.osm_host.specs.declared.outside.Op.TheVariants.{Open, Make, Put, Keep}
-use Rattle.osm_machine.specs.TaskMeanings.{is_kind_built}
-use Rattle.osm_report.specs.declared.fault.Fault.{Fault}
 use Rattle.osm_report.specs.declared.fault.DeviceCall.TheVariants.{Open as OpenCall, Spill}
-use Rattle.osm_tasks.specs.Kinds.{file_of, writes_file}
 use Rattle.osm_tasks.specs.Tasks.{TaskValue}
 use Rattle.osm_tasks.specs.declared.kind.TaskKind.{TaskKind}
 use Rattle.osm_tasks.specs.declared.kind.TaskKind.TheVariants.{ReadPbf, ReadOpl, ReadOplChange, ReadEmpty, ReadMade, WritePbf, WriteOpl, WriteOplChange, WriteNull, WriteSummary, Merge, MergeChange, AppendChange, ApplyChange, SimplifyChange, Tee, Buffer, Spool, BoundingBox, BoundingPolygon, TagFilter, UsedNode, UsedWay, Sort, SortChange}
 use Rattle.osm_run.specs.Closed.{FilesKept, IsKeptFile}
 use Rattle.osm_run.specs.Command.{Command}
 use Rattle.osm_run.specs.Commands.{kind_at, kind_files, plan_of}
-use Rattle.osm_run.specs.Course.{Course, call_fault, is_cut_short, is_spilled, meaning_of, opening_faults}
-use Rattle.osm_run.specs.HowFar.{FilesAfter, FilesAtMemory, HoldsPrefixBefore, HoldsPrefixOpened, IsFileOf, IsWritten, OthersAtMemory, may_change}
+use Rattle.osm_run.specs.Course.{Course, call_fault, meaning_of, opening_faults}
+use Rattle.osm_run.specs.HowFar.{FilesAfter, FilesAtMemory, HoldsPrefixBefore, IsFileOf, IsWritten, may_change}
 use Rattle.osm_run.specs.Opened.{ReadsOrWrites}
-use Rattle.osm_run.specs.Plan.{File, Plan, Polygon, Source, Store, Sink, Use, is_polygon, is_sink_named, is_store, openings, uses}
+use Rattle.osm_run.specs.Plan.{File, Polygon, Source, Store, Sink, Use, is_polygon, is_sink_named, is_store, openings, uses}
 use Rattle.osm_run.proofs.CountedLemmas.{all_among}
 use Rattle.osm_run.proofs.EachLemmas.{all_both, all_every, all_more, any_none, none_any}
-use Rattle.osm_run.proofs.PlaceLemmas.{all_of_files, files_at, length_plan}
+use Rattle.osm_run.proofs.PlaceLemmas.{all_of_files}
 use Rattle.osm_run.proofs.PlanLemmas.{all_openings, all_uses}
 use Rattle.osm_run.proofs.UsesLemmas.{by_plain}
 
--- a kind that is built has no file, or one that it reads or writes while it runs
-built_files : (kind : TaskKind) → is_kind_built kind ≡ true → ReadsOrWrites (kind_files kind)
-built_files (ReadPbf file) built = tt
-built_files (ReadOpl file) built = tt
-built_files (ReadOplChange file) built = tt
-built_files ReadEmpty built = tt
-built_files (ReadMade count seed) built = tt
-built_files (WritePbf file batchlimit usedense omitmetadata granularity) built = tt
-built_files (WriteOpl file) built = tt
-built_files (WriteOplChange file) built = tt
-built_files WriteNull built = tt
-built_files (WriteSummary file) built = tt
-built_files (Merge resolution) built = tt
-built_files (MergeChange resolution) built = tt
-built_files AppendChange built = tt
-built_files ApplyChange built = tt
-built_files SimplifyChange built = tt
-built_files (Tee flow outputs) built = tt
-built_files (Buffer flow capacity) built = tt
-built_files (Spool flow) built = tt
-built_files (BoundingBox left right top bottom options) built = tt
-built_files (BoundingPolygon file options) built = absurd (let no : false ≡ true = built in cc)
-built_files (TagFilter accept kind tests) built = tt
-built_files UsedNode built = tt
-built_files UsedWay built = tt
-built_files Sort built = tt
-built_files SortChange built = tt
+-- a kind has no file open while it runs, or one that it reads or writes
+pub plain_files : (kind : TaskKind) → ReadsOrWrites (kind_files kind)
+plain_files (ReadPbf file) = tt
+plain_files (ReadOpl file) = tt
+plain_files (ReadOplChange file) = tt
+plain_files ReadEmpty = tt
+plain_files (ReadMade count seed) = tt
+plain_files (WritePbf file batchlimit usedense omitmetadata granularity) = tt
+plain_files (WriteOpl file) = tt
+plain_files (WriteOplChange file) = tt
+plain_files WriteNull = tt
+plain_files (WriteSummary file) = tt
+plain_files (Merge resolution) = tt
+plain_files (MergeChange resolution) = tt
+plain_files AppendChange = tt
+plain_files ApplyChange = tt
+plain_files SimplifyChange = tt
+plain_files (Tee flow outputs) = tt
+plain_files (Buffer flow capacity) = tt
+plain_files (Spool flow) = tt
+plain_files (BoundingBox left right top bottom options) = tt
+plain_files (BoundingPolygon file options) = tt
+plain_files (TagFilter accept kind tests) = tt
+plain_files UsedNode = tt
+plain_files UsedWay = tt
+plain_files Sort = tt
+plain_files SortChange = tt
 
-pub reads_or_writes : (tasks : List TaskValue) →
-    ((t : ℕ) → t < length tasks → is_kind_built (kind_at tasks t) ≡ true) → AllByRecursion ReadsOrWrites (plan_of tasks)
-reads_or_writes [] built = tt
-reads_or_writes (task ∷ tasks) built = (
-  built_files task.kind (built 0 (omega arith)),
-  reads_or_writes tasks (λ t known. built (suc t) (omega (arith, known))),
-)
+pub reads_or_writes : (tasks : List TaskValue) → AllByRecursion ReadsOrWrites (plan_of tasks)
+reads_or_writes [] = tt
+reads_or_writes (task ∷ tasks) = (plain_files task.kind, reads_or_writes tasks)
 
 no_polygon_in : (t : ℕ) (files : List File) → ReadsOrWrites files →
     AllByRecursion (λ file. is_polygon (t, file) ≡ false) files
@@ -72,12 +62,10 @@ no_polygon_in t files plain =
     (λ name. (refl, tt))
     files plain
 
-pub no_polygon : (tasks : List TaskValue) →
-    ((t : ℕ) → t < length tasks → is_kind_built (kind_at tasks t) ≡ true) →
-    AllByRecursion (λ u. is_polygon u ≡ false) (uses (plan_of tasks))
-no_polygon tasks built =
+pub no_polygon : (tasks : List TaskValue) → AllByRecursion (λ u. is_polygon u ≡ false) (uses (plan_of tasks))
+no_polygon tasks =
     all_of_files (λ u. is_polygon u ≡ false) tasks
-    (λ t known. no_polygon_in t (kind_files (kind_at tasks t)) (built_files (kind_at tasks t) (built t known)))
+    (λ t known. no_polygon_in t (kind_files (kind_at tasks t)) (plain_files (kind_at tasks t)))
 
 -- no file failed to open
 opened_fine : (k : Command) (c : Course) → ((t : ℕ) → c.failed Open t ≡ false) → ((t : ℕ) → c.failed Make t ≡ false) →

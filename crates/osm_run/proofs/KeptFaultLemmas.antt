@@ -6,7 +6,7 @@ use Rattle.std.proofs.lemmas.Bool.{cases_eq}
 use Rattle.std.proofs.lemmas.Grind.{flat_map-append}
 use Rattle.std.proofs.lemmas.List.{append-nil}
 use Rattle.osm_report.specs.declared.fault.Fault.{Fault}
-use Rattle.osm_report.specs.declared.fault.Fault.TheVariants.{Clean, Words, Task, Graph, Buffering, NotBuilt, Input, TooLong, Device, Memory}
+use Rattle.osm_report.specs.declared.fault.Fault.TheVariants.{Clean, Words, Task, Graph, Buffering, Input, TooLong, Device, Memory}
 use Rattle.osm_report.specs.declared.fault.DeviceCall.TheVariants.{Keep as KeepCall}
 use Rattle.osm_run.specs.Plan.{File, Plan, Polygon, Sink, Source, Store, Use, uses, uses_of}
 use Rattle.osm_run.specs.Course.{call_fault, first_fault, keep_faults}
@@ -31,7 +31,6 @@ first_both (fault ∷ xs) ys met = first_met fault (first_fault ys) met.0 where
   first_met (Words error) later is = absurd (let no : false ≡ true = is in cc)
   first_met (Task error) later is = absurd (let no : false ≡ true = is in cc)
   first_met (Graph error) later is = absurd (let no : false ≡ true = is in cc)
-  first_met (NotBuilt task) later is = absurd (let no : false ≡ true = is in cc)
   first_met (Buffering circle) later is = absurd (let no : false ≡ true = is in cc)
   first_met Memory later is = absurd (let no : false ≡ true = is in cc)
 
@@ -63,7 +62,6 @@ first_clean Clean = refl
 first_clean (Words error) = refl
 first_clean (Task error) = refl
 first_clean (Graph error) = refl
-first_clean (NotBuilt task) = refl
 first_clean (Buffering circle) = refl
 first_clean (Input task cause spot) = refl
 first_clean (TooLong task) = refl

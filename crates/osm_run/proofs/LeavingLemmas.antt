@@ -1,13 +1,12 @@
 -- What machines leave, one machine after the other.
 use Rattle.std.proofs.Common.{◌≡◌, ℕ, zero, suc, ◌+◌, ◌<◌, ◌≤◌, List, [], ◌∷◌, ◌++◌, length, map, drop, refl, sym, ap, subst, ◌∙◌, append_assoc, append-nil, arith}
-use Rattle.std.specs.Prelude.{flat_map, get_or, true, false, not, Bool, Option, Some, None}
-use Rattle.std.specs.List.{enumerate_from, position}
+use Rattle.std.specs.Prelude.{flat_map, get_or}
+use Rattle.std.specs.List.{enumerate_from}
 use Rattle.osm_entity.specs.declared.verdict.Verdict.{Verdict}
-use Rattle.osm_machine.specs.MachineKinds.{machines}
 use Rattle.osm_machine.specs.declared.kind.MachineKind.{MachineKind}
 use Rattle.osm_report.specs.declared.fault.Fault.{Fault}
 use Rattle.osm_run.specs.Course.{first_fault}
-use Rattle.osm_run.specs.Went.{device_of, devices_of, machine_end, machine_ends, verdict_faults, verdicts_of}
+use Rattle.osm_run.specs.Went.{machine_end, machine_ends, verdict_faults}
 
 pub map_more : {A B : Type 0} (f : A → B) (xs : List A) (x : A) → map f (xs ++ x ∷ []) ≡ map f xs ++ f x ∷ []
 map_more f [] x = refl

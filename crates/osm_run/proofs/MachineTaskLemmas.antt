@@ -11,21 +11,22 @@ use Rattle.osm_machine.specs.MachineKinds.{machines}
 use Rattle.osm_machine.specs.declared.kind.MachineKind.{MachineKind}
 use Rattle.osm_net.specs.Nets.{CanHold, HasRoom}
 use Rattle.osm_net.specs.Runs.{AreNewMachines}
-use Rattle.osm_run.specs.Commands.{AreTasksKept}
+use Rattle.osm_run.specs.Commands.{Areas, AreTasksKept}
 use Rattle.osm_run.specs.Went.{AreMachinesOf, DeviceSeen}
 use Rattle.osm_run.proofs.GraphMeaningLemmas.{inputs_are, outputs_are, source_known}
 
 -- the machines of a graph's tasks are what a network runs
-pub machines_are_tasks : {S K : Type 0} (g : GraphValue) (devices : List DeviceSeen) (ms : List (MachineKind S K)) →
-    IsGraph g → AreTasksKept g.tasks → AreMachinesOf g.tasks devices ms → AreNewMachines machines g.pipes ms
-machines_are_tasks {S} {K} g devices ms graph kept made d =
+pub machines_are_tasks : {S K : Type 0} (g : GraphValue) (areas : Areas) (devices : List DeviceSeen)
+    (ms : List (MachineKind S K)) → IsGraph g → AreTasksKept g.tasks → AreMachinesOf g.tasks areas devices ms →
+    AreNewMachines machines g.pipes ms
+machines_are_tasks {S} {K} g areas devices ms graph kept made d =
     let whole = graph.whole in
     let inputs : (t : ℕ) → t < length g.tasks → (machines.task (get_or ms t d)).inputs ≡ count_inputs g.tasks t =
     λ t known. ap (λ (task : TaskMeaning). task.inputs) (made.each t d known).task_is
-    ∙ inputs_are g.tasks kept t known in
+    ∙ inputs_are g.tasks areas kept t known in
     let outputs : (t : ℕ) → t < length g.tasks → (machines.task (get_or ms t d)).outputs ≡ count_outputs g.tasks t =
     λ t known. ap (λ (task : TaskMeaning). task.outputs) (made.each t d known).task_is
-    ∙ outputs_are g.tasks kept t known in
+    ∙ outputs_are g.tasks areas kept t known in
     let below : (t : ℕ) → t < length ms → t < length g.tasks = λ t known. omega (arith, known, made.count) in
     record {
       graph = record {

@@ -1,10 +1,8 @@
 -- What a run that was out of memory leaves: first bytes of its writers up to a place, and all else as it was.
 use Rattle.std.proofs.Common.{◌≡◌, ℕ, ◌<◌, List, [], ◌∷◌, Bool, true, false, ◌&&◌, ◌||◌, refl, sym, ap, subst, ◌∙◌}
 use Rattle.std.specs.Prelude.{nat_lt}
-use Rattle.std.specs.FinMap as finite
-use Rattle.std.specs.List.{AllByRecursion, list_any}
+use Rattle.std.specs.List.{AllByRecursion}
 use Rattle.std.specs.Str.{bytes_eq}
-use Rattle.std.proofs.lemmas.Slice.Eq.{bytes_eq-Decides}
 use Rattle.osm_host.specs.Contents.{Files}
 use Rattle.osm_host.specs.Counts.{Rose}
 use Rattle.osm_host.specs.Moments.{Moment}
@@ -24,7 +22,7 @@ use Rattle.osm_run.proofs.CountedLemmas.{IsCounted, bytes_eq-self, opened_counte
 use Rattle.osm_run.proofs.EachLemmas.{all_both, all_more, none_any}
 use Rattle.osm_run.proofs.FirstFaultLemmas.{IsMet, faults_met, is_met, opening_met}
 use Rattle.osm_run.proofs.StayLemmas.{none_opened}
-use Rattle.osm_run.proofs.StoppedLemmas.{all_has}
+use Rattle.osm_run.proofs.NothingGivenLemmas.{all_has}
 
 -- a fault of a file or of a task's input is not that of memory
 met_not_memory : (fault : Fault) → IsMet fault → fault ≡ Memory → ⊥

@@ -1,76 +1,31 @@
--- What a graph that is run, and its open files, say of the devices of its tasks.
-use Rattle.std.proofs.Common.{◌≡◌, ℕ, zero, suc, ◌+◌, ◌<◌, ◌≤◌, List, [], ◌∷◌, ◌++◌, length, Bool, true, false, ◌&&◌, ◌||◌, cond, inl, inr, refl, sym, ap, subst, ◌∙◌, arith}
-use Rattle.std.specs.Prelude.{Contains, Option, Some, None, not, flat_map, get_or, nat_lt, IfSome}
-use Rattle.std.specs.List.{AllByRecursion, position, position_or_len}
-use Rattle.std.specs.Str.{bytes_eq}
-use Rattle.std.proofs.lemmas.Bool.{lt-ltb, le-ltb, cases_lt}
+-- What the tasks of a graph, and their open files, say of the devices of the tasks.
+use Rattle.std.proofs.Common.{◌≡◌, ℕ, zero, suc, ◌<◌, ◌≤◌, List, [], ◌∷◌, length, Bool, true, false, ◌&&◌, ◌||◌, inl, inr, refl, sym, ap, subst, ◌∙◌, arith}
+use Rattle.std.specs.Prelude.{Contains, Option, Some, None, flat_map, get_or}
+use Rattle.std.specs.List.{AllByRecursion}
+use Rattle.std.proofs.lemmas.Bool.{cases_lt}
 use Rattle.std.proofs.lemmas.List.Elements.{Contains-append_right}
-use Rattle.std.proofs.lemmas.List.Sums.{fails_before_first, position_or_len_is}
 use Rattle.std.proofs.lemmas.Slice.Eq.{bytes_eq-Decides}
 use Rattle.osm_entity.specs.Meaning.{Meaning}
 use Rattle.osm_graph.specs.Files.{are_same_file, clashes}
-use Rattle.osm_graph.specs.Graphs.{GraphValue, IsGraph, no_task}
+use Rattle.osm_graph.specs.Graphs.{no_task}
 use Rattle.osm_host.specs.Contents.{Files, IsEmptyWhereTold}
 use Rattle.osm_host.specs.Moments.{Moment}
-use Rattle.osm_machine.specs.Sinks.{SinkSeen, TookNothing}
-use Rattle.osm_machine.specs.TaskMeanings.{is_kind_built}
+use Rattle.osm_machine.specs.Sinks.{TookNothing}
 use Rattle.osm_tasks.specs.Kinds.{file_of, writes_file}
 use Rattle.osm_tasks.specs.Tasks.{TaskValue}
 use Rattle.osm_tasks.specs.declared.kind.TaskKind.{TaskKind}
 use Rattle.osm_tasks.specs.declared.kind.TaskKind.TheVariants.{ReadPbf, ReadOpl, ReadOplChange, ReadEmpty, ReadMade, WritePbf, WriteOpl, WriteOplChange, WriteNull, WriteSummary, Merge, MergeChange, AppendChange, ApplyChange, SimplifyChange, Tee, Buffer, Spool, BoundingBox, BoundingPolygon, TagFilter, UsedNode, UsedWay, Sort, SortChange}
-use Rattle.osm_run.specs.Asked.{IsRunnable, first_unbuilt}
 use Rattle.osm_run.specs.Closed.{AreSinksApart, CanClose, CanCloseAll, DevicesTell}
 use Rattle.osm_run.specs.Commands.{kind_at, kind_files, plan_of}
 use Rattle.osm_run.specs.Course.{Course, entries, entry}
-use Rattle.osm_run.specs.Leaving.{AreFresh, AreTasksBuilt, IsFresh}
-use Rattle.osm_run.specs.Opened.{AreOpened, IsNewSink, IsNewSource, IsOpenedAs}
+use Rattle.osm_run.specs.Leaving.{AreFresh, IsFresh}
+use Rattle.osm_run.specs.Opened.{AreOpened, IsOpenedAs}
 use Rattle.osm_run.specs.Plan.{File, Plan, Polygon, Source, Store, Sink, Use, names_of, openings, uses}
 use Rattle.osm_run.specs.Went.{AreDevicesFor, DeviceSeen, DeviceTells, IsDeviceFor, NoDevice, SeenSink, SeenSource, device_at}
-use Rattle.osm_run.specs.declared.status.SourceEnd.{SourceEnd}
 use Rattle.osm_run.proofs.CountedLemmas.{all_among}
 use Rattle.osm_run.proofs.EachLemmas.{all_flat_map, all_more}
 use Rattle.osm_run.proofs.PlaceLemmas.{files_at, files_of_all, length_plan}
 use Rattle.osm_run.proofs.PlanLemmas.{all_uses}
-
--- where no element passes a test, each fails it
-none_passes : {X : Type 0} (p : X → Bool) (xs : List X) → position p xs ≡ None → (t : ℕ) (d : X) → t < length xs →
-    p (get_or xs t d) ≡ false
-none_passes p xs none t d known = elim (cases_lt (position_or_len p xs) (length xs)) [
-  | inl less ↦ absurd (let no : Some (position_or_len p xs) ≡ None =
-      sym (ap (λ b. cond b (Some (position_or_len p xs)) None) (lt-ltb (position_or_len p xs) (length xs) less))
-      ∙ none in cc)
-  | inr le ↦ fails_before_first p xs t d (omega (arith, known, le))
-]
-
--- the first element that passes a test, where those before it fail it
-pub found_first : {X : Type 0} (p : X → Bool) (xs : List X) (at : ℕ) (x : X) → at < length xs → x ≡ get_or xs at x →
-    p x ≡ true → ((k : ℕ) (d : X) → k < at → p (get_or xs k d) ≡ false) → Some at ≡ position p xs
-found_first p xs at x known is passes before =
-    let first : position_or_len p xs ≡ at =
-    position_or_len_is p xs at x (omega (arith, known)) (λ k less. before k x less)
-    (λ less. ap p (sym is) ∙ passes) in
-    sym (ap (λ n. cond (nat_lt n (length xs)) (Some n) None) first
-    ∙ ap (λ b. cond b (Some at) None) (lt-ltb at (length xs) known))
-
--- and none where all fail it
-pub found_none : {X : Type 0} (p : X → Bool) (xs : List X) (d : X) →
-    ((k : ℕ) (d : X) → k < length xs → p (get_or xs k d) ≡ false) → None ≡ position p xs
-found_none p xs d before =
-    let last : position_or_len p xs ≡ length xs =
-    position_or_len_is p xs (length xs) d (omega arith) (λ k less. before k d less)
-    (λ less. absurd (omega (arith, less))) in
-    sym (ap (λ n. cond (nat_lt n (length xs)) (Some n) None) last
-    ∙ ap (λ b. cond b (Some (length xs)) None) (le-ltb (length xs) (length xs) (omega arith)))
-
-not_false : (b : Bool) → not b ≡ false → b ≡ true
-not_false true is = refl
-not_false false is = let no : true ≡ false = is in cc
-
--- each task of a graph that is run is built
-pub tasks_built : (g : GraphValue) → IsRunnable g → AreTasksBuilt g.tasks
-tasks_built g runnable t known =
-    not_false (is_kind_built (kind_at g.tasks t))
-    (none_passes (λ (task : TaskValue). not (is_kind_built task.kind)) g.tasks runnable.built t no_task known)
 
 -- a device that was opened for some files is one for them
 device_for : (files : Option Files) (fs : List File) (d : DeviceSeen) → IsOpenedAs files fs d → IsDeviceFor fs d
@@ -162,7 +117,7 @@ written_of (Tee flow outputs) name is = no_sink name is
 written_of (Buffer flow capacity) name is = no_sink name is
 written_of (Spool flow) name is = no_sink name is
 written_of (BoundingBox left right top bottom options) name is = no_sink name is
-written_of (BoundingPolygon file options) name is = let no : Polygon file ∷ [] ≡ Sink name ∷ [] = is in cc
+written_of (BoundingPolygon file options) name is = no_sink name is
 written_of (TagFilter accept kind tests) name is = no_sink name is
 written_of UsedNode name is = no_sink name is
 written_of UsedWay name is = no_sink name is

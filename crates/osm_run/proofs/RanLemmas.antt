@@ -5,27 +5,23 @@ use Rattle.std.specs.List.{AllByRecursion, enumerate_from}
 use Rattle.osm_entity.specs.Meaning.{Meaning}
 use Rattle.osm_entity.specs.declared.verdict.Verdict.{Verdict}
 use Rattle.osm_graph.specs.Graphs.{GraphValue, IsGraph, most_joined_tasks}
-use Rattle.osm_graph.specs.declared.pipe.Pipe.{Pipe}
 use Rattle.osm_host.specs.Contents.{Files}
 use Rattle.osm_host.specs.Moments.{Moment}
-use Rattle.osm_machine.specs.MachineDevices.{device_names}
 use Rattle.osm_machine.specs.MachineKinds.{machines}
 use Rattle.osm_machine.specs.declared.kind.MachineKind.{MachineKind}
-use Rattle.osm_net.specs.Runs.{AreCountedRun, KeepNames}
-use Rattle.osm_net.specs.SourceNames.{names_source}
 use Rattle.osm_report.specs.declared.fault.Fault.{Fault}
 use Rattle.osm_report.specs.declared.fault.Fault.TheVariants.{Memory}
 use Rattle.osm_run.specs.Closed.{AreClosed, DevicesTell, FilesKept}
 use Rattle.osm_run.specs.Command.{Command}
-use Rattle.osm_run.specs.Commands.{command_of_graph, plan_of}
+use Rattle.osm_run.specs.Commands.{Areas, command_with, plan_of}
 use Rattle.osm_run.specs.Course.{Course, entries, first_fault, keep_faults, meaning_of, opening_faults, run_faults}
 use Rattle.osm_run.specs.HowFar.{FilesAfter, FilesAtMemory, HowFar, OutOfMemory, Ran, Stopped, WasUsed, WhereTold}
-use Rattle.osm_run.specs.Leaving.{AreLeft, AreRanMachines}
+use Rattle.osm_run.specs.Leaving.{AreRanMachines}
 use Rattle.osm_run.specs.OnHost.{IsCourse}
 use Rattle.osm_run.specs.Headline.{RanItsTasks}
 use Rattle.osm_run.specs.Opened.{IsIdleRun, course_at_rest}
 use Rattle.osm_run.specs.Plan.{Plan, Use, is_polygon, openings, uses}
-use Rattle.osm_run.specs.Went.{AreDevicesFor, AreMachinesOf, AreStepsOf, DeviceSeen, device_of, DeviceTells, HaveRun, NoDevice, SeenSink, SeenSource, device_at, messages_by, most_pulls_of, verdict_faults, with_keeps}
+use Rattle.osm_run.specs.Went.{AreStepsOf, DeviceSeen, device_of, DeviceTells, HaveRun, NoDevice, SeenSink, SeenSource, device_at, messages_by, most_pulls_of, verdict_faults, with_keeps}
 use Rattle.osm_run.specs.WordsRun.{IsCountedRun, TakesSteps}
 use Rattle.osm_run.specs.declared.closing.Kept.{Kept}
 use Rattle.osm_run.specs.declared.status.SourceEnd.{SourceEnd}
@@ -36,22 +32,6 @@ use Rattle.osm_run.proofs.HeldLemmas.{files_after_tasks, files_at_memory, nothin
 use Rattle.osm_run.proofs.LeavingLemmas.{map_length}
 use Rattle.osm_run.proofs.OpenFilesLemmas.{as_many_entries}
 use Rattle.osm_run.proofs.PlaceLemmas.{length_plan}
-use Rattle.osm_run.proofs.WentLemmas.{counted_tasks_have_run}
-
--- the machines of a graph's tasks ran over its pipes: what they leave tells of a course
-pub machines_ran : {S K : Type 0} (g : GraphValue) (opened now : List DeviceSeen) (verdicts : List Verdict)
-    (ends : List SourceEnd) (made after : List (MachineKind S K)) (memory : Bool) (steps : ℕ) → IsGraph g →
-    AreDevicesFor g.tasks opened → AreMachinesOf g.tasks opened made → (pipes : List Pipe) → pipes ≡ g.pipes →
-    AreCountedRun machines (λ m. names_source (device_names m)) pipes made after memory steps →
-    KeepNames device_names made after → AreLeft after now verdicts ends →
-    AreRanMachines g opened now verdicts ends memory steps after
-machines_ran g opened now verdicts ends made after memory steps graph fits are pipes same run names left =
-    let went : (c : Course) × ((keeps : ℕ → Bool) → HaveRun g opened after memory (with_keeps keeps c)
-    × AreStepsOf g (with_keeps keeps c) memory steps) =
-    counted_tasks_have_run g opened made after memory steps graph fits are
-    (subst (λ ps. AreCountedRun machines (λ m. names_source (device_names m)) ps made after memory steps) same run)
-    names in
-    record { left = left; course = went.0; went = went.1 }
 
 -- what a device tells of a course doesn't depend on the keeps
 tells_alike : (keeps : ℕ → Bool) (c : Course) (m : Meaning) (memory : Bool) (t : ℕ) (opened now : DeviceSeen) →
@@ -77,12 +57,12 @@ neither : (a b : Bool) → (a || b) ≡ false → a ≡ false
 neither true b is = is
 neither false b is = refl
 
-module _ {S K : Type 0} (g : GraphValue) (before after : Moment) (opened now : List DeviceSeen)
+module _ {S K : Type 0} (g : GraphValue) (areas : Areas) (before after : Moment) (opened now : List DeviceSeen)
     (verdicts : List Verdict) (ends : List SourceEnd) (memory : Bool) (steps : ℕ) (ms : List (MachineKind S K))
-    (ran : AreRanMachines g opened now verdicts ends memory steps ms) where
+    (ran : AreRanMachines g areas opened now verdicts ends memory steps ms) where
   -- the devices that the machines leave tell of the course of their run
   pub devices_tell :
-      DevicesTell (plan_of g.tasks) ran.course (meaning_of (command_of_graph g) ran.course) memory opened now
+      DevicesTell (plan_of g.tasks) ran.course (meaning_of (command_with g areas) ran.course) memory opened now
   devices_tell =
       let went = (ran.went (λ t. false)).0 in
       record {
@@ -91,10 +71,10 @@ module _ {S K : Type 0} (g : GraphValue) (before after : Moment) (opened now : L
         opens = went.opens;
         makes = went.makes;
         told = λ t known.
-            tells_alike (λ t. false) ran.course (meaning_of (command_of_graph g) ran.course) memory t
+            tells_alike (λ t. false) ran.course (meaning_of (command_with g areas) ran.course) memory t
             (device_at opened t) (device_at now t)
             (subst (λ ds. DeviceTells (with_keeps (λ t. false) ran.course)
-            (meaning_of (command_of_graph g) ran.course) memory t (device_at opened t) (device_at ds t))
+            (meaning_of (command_with g areas) ran.course) memory t (device_at opened t) (device_at ds t))
             (sym ran.left.devices_are) (went.told t (omega (arith, known, length_plan g.tasks))));
       }
 
@@ -115,25 +95,25 @@ module _ {S K : Type 0} (g : GraphValue) (before after : Moment) (opened now : L
       omega (arith, as_many, count, few)
 
   module _ (kept : Kept) (status : Status) (plain : AllByRecursion (λ u. is_polygon u ≡ false) (uses (plan_of g.tasks)))
-      (closed : AreClosed (plan_of g.tasks) ran.course (meaning_of (command_of_graph g) ran.course) memory before after
+      (closed : AreClosed (plan_of g.tasks) ran.course (meaning_of (command_with g areas) ran.course) memory before after
       kept) (ends_are : status.ends ≡ ends) where
     abbrev course : Course
     course = with_keeps closed.keeps ran.course
 
-    went : HaveRun g opened ms memory course
+    went : HaveRun g areas opened ms memory course
     went = (ran.went closed.keeps).0
 
-    counted : AreStepsOf g course memory steps
+    counted : AreStepsOf (command_with g areas) course memory steps
     counted = (ran.went closed.keeps).1
 
     ends_of : status.ends ≡ entries (plan_of g.tasks) course
     ends_of = ends_are ∙ ran.left.ends_are ∙ went.ends
 
-    few_steps : steps ≤ 2 * messages_by g course + most_pulls_of status.ends
-    few_steps = subst (λ es. steps ≤ 2 * messages_by g course + most_pulls_of es) (sym ends_of) counted.most
+    few_steps : steps ≤ 2 * messages_by (command_with g areas) course + most_pulls_of status.ends
+    few_steps = subst (λ es. steps ≤ 2 * messages_by (command_with g areas) course + most_pulls_of es) (sym ends_of) counted.most
 
     -- out of memory
-    pub ran_out : status.fault ≡ Memory → IsCountedRun g before after status steps
+    pub ran_out : status.fault ≡ Memory → IsCountedRun (command_with g areas) before after status steps
     ran_out fault = record {
       run = record {
         course = course;
@@ -143,9 +123,9 @@ module _ {S K : Type 0} (g : GraphValue) (before after : Moment) (opened now : L
           fault = fault;
           ends = inl ends_of;
           files = told_more before.files after.files
-              (FilesKept (plan_of g.tasks) course (meaning_of (command_of_graph g) course) (memory || kept.memory))
-              (FilesAtMemory (command_of_graph g) course (length g.tasks)) closed.files
-              (λ was then held. files_at_memory (command_of_graph g) course (memory || kept.memory) (length g.tasks) was
+              (FilesKept (plan_of g.tasks) course (meaning_of (command_with g areas) course) (memory || kept.memory))
+              (FilesAtMemory (command_with g areas) course (length g.tasks)) closed.files
+              (λ was then held. files_at_memory (command_with g areas) course (memory || kept.memory) (length g.tasks) was
               then went.all_opened (uses_below g.tasks) held);
         });
       };
@@ -158,7 +138,7 @@ module _ {S K : Type 0} (g : GraphValue) (before after : Moment) (opened now : L
 
     fault_of : memory ≡ false →
         status.fault ≡ first_fault (flat_map verdict_faults (enumerate_from 0 verdicts) ++ keeps) →
-        status.fault ≡ first_fault (run_faults (command_of_graph g) course)
+        status.fault ≡ first_fault (run_faults (command_with g areas) course)
     fault_of there fault =
         fault
         ∙ ap (λ vs. first_fault (flat_map verdict_faults (enumerate_from 0 vs) ++ keeps)) ran.left.verdicts_are
@@ -167,7 +147,7 @@ module _ {S K : Type 0} (g : GraphValue) (before after : Moment) (opened now : L
     pub ran_whole : (memory || kept.memory) ≡ false →
         ((more : List Fault) → kept.fault ≡ first_fault more →
         status.fault ≡ first_fault (flat_map verdict_faults (enumerate_from 0 verdicts) ++ more)) →
-        IsCountedRun g before after status steps
+        IsCountedRun (command_with g areas) before after status steps
     ran_whole there fault =
         let no_memory : memory ≡ false = neither memory kept.memory there in
         record {
@@ -176,18 +156,18 @@ module _ {S K : Type 0} (g : GraphValue) (before after : Moment) (opened now : L
             is_course = closed.is_course;
             how_far = Ran (record {
               opened = went.all_opened;
-              fine = subst (λ us. flat_map (opening_faults (command_of_graph g) course) us ≡ []) (sym went.all_opened)
-                  (nothing_failed_to_open (command_of_graph g) course plain went.opens went.makes);
-              used = all_given (λ u. is_polygon u ≡ false) (WasUsed (command_of_graph g) course)
+              fine = subst (λ us. flat_map (opening_faults (command_with g areas) course) us ≡ []) (sym went.all_opened)
+                  (nothing_failed_to_open (command_with g areas) course plain went.opens went.makes);
+              used = all_given (λ u. is_polygon u ≡ false) (WasUsed (command_with g areas) course)
                   (uses (plan_of g.tasks))
                   (went.used no_memory) plain;
               fault = fault_of no_memory (fault keeps closed.fault);
               ends = ends_of;
               files = told_more before.files after.files
-                  (FilesKept (plan_of g.tasks) course (meaning_of (command_of_graph g) course) (memory || kept.memory))
-                  (FilesAfter (command_of_graph g) course) closed.files
-                  (λ was then held. files_after_tasks (command_of_graph g) course was then went.spilled
-                  (subst (λ short. FilesKept (plan_of g.tasks) course (meaning_of (command_of_graph g) course) short was
+                  (FilesKept (plan_of g.tasks) course (meaning_of (command_with g areas) course) (memory || kept.memory))
+                  (FilesAfter (command_with g areas) course) closed.files
+                  (λ was then held. files_after_tasks (command_with g areas) course was then went.spilled
+                  (subst (λ short. FilesKept (plan_of g.tasks) course (meaning_of (command_with g areas) course) short was
                   then) there held));
             });
           };
@@ -200,32 +180,31 @@ by_memory true out there = out refl
 by_memory false out there = there refl
 
 -- the run of a command whose machines ran and whose files were closed
-pub closed_run : {S K : Type 0} (g : GraphValue) (before after : Moment) (opened now : List DeviceSeen)
+pub closed_run : {S K : Type 0} (g : GraphValue) (areas : Areas) (before after : Moment) (opened now : List DeviceSeen)
     (verdicts : List Verdict) (ends : List SourceEnd) (memory : Bool) (steps : ℕ) (ms : List (MachineKind S K))
-    (ran : AreRanMachines g opened now verdicts ends memory steps ms) (kept : Kept) (status : Status) →
+    (ran : AreRanMachines g areas opened now verdicts ends memory steps ms) (kept : Kept) (status : Status) →
     AllByRecursion (λ u. is_polygon u ≡ false) (uses (plan_of g.tasks)) →
-    AreClosed (plan_of g.tasks) ran.course (meaning_of (command_of_graph g) ran.course) memory before after kept →
+    AreClosed (plan_of g.tasks) ran.course (meaning_of (command_with g areas) ran.course) memory before after kept →
     status.ends ≡ ends → ((memory || kept.memory) ≡ true → status.fault ≡ Memory) →
     ((memory || kept.memory) ≡ false → (more : List Fault) → kept.fault ≡ first_fault more →
     status.fault ≡ first_fault (flat_map verdict_faults (enumerate_from 0 verdicts) ++ more)) →
-    IsCountedRun g before after status steps
-closed_run g before after opened now verdicts ends memory steps ms ran kept status plain closed ends_are out there =
+    IsCountedRun (command_with g areas) before after status steps
+closed_run g areas before after opened now verdicts ends memory steps ms ran kept status plain closed ends_are out there =
     by_memory (memory || kept.memory)
-    (λ is. ran_out g before after opened now verdicts ends memory steps ms ran kept status plain closed ends_are
+    (λ is. ran_out g areas before after opened now verdicts ends memory steps ms ran kept status plain closed ends_are
     (out is))
-    (λ is. ran_whole g before after opened now verdicts ends memory steps ms ran kept status plain closed ends_are is
+    (λ is. ran_whole g areas before after opened now verdicts ends memory steps ms ran kept status plain closed ends_are is
     (there is))
 
 -- where no task ran no step was taken
-idle_steps : (g : GraphValue) (c : Course) (before after : Moment) (status : Status) →
-    (far : HowFar (command_of_graph g) c before after status) → (RanItsTasks far → ⊥) →
-    TakesSteps g c status.ends far 0
-idle_steps g c before after status (Stopped stop) idle = refl
-idle_steps g c before after status (Ran tasks) idle = absurd (idle tt)
-idle_steps g c before after status (OutOfMemory memory) idle = omega arith
+idle_steps : (k : Command) (c : Course) (before after : Moment) (status : Status) →
+    (far : HowFar k c before after status) → (RanItsTasks far → ⊥) → TakesSteps k c status.ends far 0
+idle_steps k c before after status (Stopped stop) idle = refl
+idle_steps k c before after status (Ran tasks) idle = absurd (idle tt)
+idle_steps k c before after status (OutOfMemory memory) idle = omega arith
 
-pub idle_run : (g : GraphValue) (before after : Moment) (status : Status) (steps : ℕ) →
-    IsIdleRun (command_of_graph g) before after status → steps ≡ 0 → IsCountedRun g before after status steps
-idle_run g before after status steps is none =
-    subst (IsCountedRun g before after status) (sym none)
-    (record { run = is.run; counted = idle_steps g is.run.course before after status is.run.how_far is.idle })
+pub idle_run : (k : Command) (before after : Moment) (status : Status) (steps : ℕ) →
+    IsIdleRun k before after status → steps ≡ 0 → IsCountedRun k before after status steps
+idle_run k before after status steps is none =
+    subst (IsCountedRun k before after status) (sym none)
+    (record { run = is.run; counted = idle_steps k is.run.course before after status is.run.how_far is.idle })

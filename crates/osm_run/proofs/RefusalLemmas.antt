@@ -1,6 +1,6 @@
 -- What the refusal of words says, and that words that are not refused run their command.
-use Rattle.std.proofs.Common.{◌≡◌, ℕ, List, [], Bool, true, false, inl, inr, refl, sym, ap, subst, ◌∙◌, arith}
-use Rattle.std.specs.Prelude.{◌≢◌, ◌↔◌, ◌⊎◌, Option, Some, None, Result, Ok, Err}
+use Rattle.std.proofs.Common.{◌≡◌, ℕ, List, [], Bool, true, false, inl, inr, sym, ap, subst, ◌∙◌, arith}
+use Rattle.std.specs.Prelude.{◌≢◌, ◌↔◌, ◌⊎◌, Result, Ok, Err}
 use Rattle.osm_circle.specs.Circles.{IsBareCircle}
 use Rattle.osm_circle.specs.declared.circle.Sense.{Sense}
 use Rattle.osm_graph.specs.Graphs.{GraphValue}
@@ -8,18 +8,18 @@ use Rattle.osm_graph.specs.Joining.{connected}
 use Rattle.osm_graph.specs.declared.fault.GraphError.{GraphError}
 use Rattle.osm_host.specs.Moments.{Moment}
 use Rattle.osm_report.specs.declared.fault.Fault.{Fault}
-use Rattle.osm_report.specs.declared.fault.Fault.TheVariants.{Words, Task, Graph, Buffering, NotBuilt, Memory}
+use Rattle.osm_report.specs.declared.fault.Fault.TheVariants.{Words, Task, Graph, Buffering, Memory}
 use Rattle.osm_tasks.specs.Resolving.{resolved}
 use Rattle.osm_tasks.specs.Tasks.{TaskValue}
 use Rattle.osm_tasks.specs.declared.fault.TaskError.{TaskError}
 use Rattle.osm_words.specs.Split.{split_words}
 use Rattle.osm_words.specs.declared.list.TaskWords.{TaskWords}
 use Rattle.osm_words.specs.declared.list.WordsError.{WordsError}
-use Rattle.osm_run.specs.Asked.{HasCircle, HasNoCircle, IsRefusal, IsRunnable, IsUnbuilt, WasOutOfMemory, WasRefused, first_unbuilt, graph_asked, joined_asked, list_asked, tasks_asked}
+use Rattle.osm_run.specs.Asked.{HasCircle, HasNoCircle, IsRefusal, WasOutOfMemory, WasRefused, graph_asked, joined_asked, list_asked, tasks_asked}
 use Rattle.osm_run.specs.Codes.{code_of}
 use Rattle.osm_run.specs.Commands.{command_of_graph}
 use Rattle.osm_run.specs.Outcome.{AfterRefusal, IsRun, IsUnchanged}
-use Rattle.osm_run.specs.WordsRun.{DidRun, IsRefusedOrRun, IsUnbuiltAt, IsWordsRun, RanOrHadNoMemory, WereRefused}
+use Rattle.osm_run.specs.WordsRun.{DidRun, IsRefusedOrRun, IsWordsRun, RanOrHadNoMemory, WereRefused}
 use Rattle.osm_run.specs.declared.status.Status.{Status}
 use Rattle.osm_run.proofs.StayLemmas.{no_refusal}
 
@@ -51,12 +51,12 @@ not_first words fault is other =
     let both : true ≡ false = sym (list_refusal (split_words words) fault is) ∙ other in cc
 
 -- with status 2 or 3 words were refused
-refused_by_code : (asked : Result GraphValue Fault) (before after : Moment) (status : Status) (steps : ℕ) →
-    IsRefusedOrRun asked before after status steps → (code_of status.fault ≡ 2) ⊎ (code_of status.fault ≡ 3) →
+refused_by_code : (asked : Result GraphValue Fault) (before after : Moment) (status : Status) →
+    IsRefusedOrRun asked before after status → (code_of status.fault ≡ 2) ⊎ (code_of status.fault ≡ 3) →
     AfterRefusal (IsRefusal asked) before after status
-refused_by_code asked before after status steps (WereRefused r none) code = r
-refused_by_code asked before after status steps (DidRun graph is runnable r) code =
-    absurd (no_refusal (command_of_graph graph) before after status r.run code)
+refused_by_code asked before after status (WereRefused r) code = r
+refused_by_code asked before after status (DidRun graph is bare r) code =
+    absurd (no_refusal (command_of_graph graph) before after status r code)
 
 -- the fault of the first refusal, where there is one and memory was there
 first_fault_is : (asked : Result GraphValue Fault) (refusal fault : Fault) → IsRefusal asked fault →
@@ -65,16 +65,14 @@ first_fault_is asked refusal fault (WasRefused first) is other =
     let same : Err fault ≡ Err refusal = sym first ∙ is in cc
 first_fault_is asked refusal fault (HasCircle graph circle joined bare names) is other =
     absurd (let no : Ok graph ≡ Err refusal = sym joined ∙ is in cc)
-first_fault_is asked refusal fault (IsUnbuilt graph task joined none first names) is other =
-    absurd (let no : Ok graph ≡ Err refusal = sym joined ∙ is in cc)
 first_fault_is asked refusal fault (WasOutOfMemory memory) is other = absurd (other memory)
 
-refused_first_by : (asked : Result GraphValue Fault) (before after : Moment) (status : Status) (steps : ℕ) →
-    IsRefusedOrRun asked before after status steps → (refusal : Fault) → asked ≡ Err refusal →
+refused_first_by : (asked : Result GraphValue Fault) (before after : Moment) (status : Status) →
+    IsRefusedOrRun asked before after status → (refusal : Fault) → asked ≡ Err refusal →
     (status.fault ≡ Memory → ⊥) → status.fault ≡ refusal
-refused_first_by asked before after status steps (WereRefused r none) refusal is other =
+refused_first_by asked before after status (WereRefused r) refusal is other =
     first_fault_is asked refusal status.fault r.fault is other
-refused_first_by asked before after status steps (DidRun graph joined runnable r) refusal is other =
+refused_first_by asked before after status (DidRun graph joined bare r) refusal is other =
     absurd (let no : Ok graph ≡ Err refusal = sym joined ∙ is in cc)
 
 -- a graph that is asked for is one
@@ -87,24 +85,20 @@ circle_of : (asked : Result GraphValue Fault) (graph : GraphValue) (fault : Faul
 circle_of asked graph fault (WasRefused first) is three = absurd (let no : Err fault ≡ Ok graph = sym first ∙ is in cc)
 circle_of asked graph fault (HasCircle one circle joined bare names) is three =
     (circle, subst (λ (g : GraphValue). IsBareCircle g.pipes circle) (one_graph asked one graph joined is) bare)
-circle_of asked graph fault (IsUnbuilt one task joined none first names) is three =
-    absurd (omega (arith, three, ap code_of names))
 circle_of asked graph fault (WasOutOfMemory memory) is three = absurd (omega (arith, three, ap code_of memory))
 
 -- where the graph has a bare circle, words are refused for one, where memory was there
-circle_by : (asked : Result GraphValue Fault) (before after : Moment) (status : Status) (steps : ℕ) →
-    IsRefusedOrRun asked before after status steps → (graph : GraphValue) → asked ≡ Ok graph →
+circle_by : (asked : Result GraphValue Fault) (before after : Moment) (status : Status) →
+    IsRefusedOrRun asked before after status → (graph : GraphValue) → asked ≡ Ok graph →
     (status.fault ≡ Memory → ⊥) → (circle : List Sense) × IsBareCircle graph.pipes circle → code_of status.fault ≡ 3
-circle_by asked before after status steps (DidRun one joined runnable r) graph is other circle =
-    absurd (runnable.bare circle.0
+circle_by asked before after status (DidRun one joined bare r) graph is other circle =
+    absurd (bare circle.0
     (subst (λ (g : GraphValue). IsBareCircle g.pipes circle.0) (one_graph asked graph one is joined) circle.1))
-circle_by asked before after status steps (WereRefused r none) graph is other circle = by_refusal r.fault
+circle_by asked before after status (WereRefused r) graph is other circle = by_refusal r.fault
   where
     by_refusal : IsRefusal asked status.fault → code_of status.fault ≡ 3
     by_refusal (WasRefused first) = absurd (let no : Err status.fault ≡ Ok graph = sym first ∙ is in cc)
     by_refusal (HasCircle one found joined bare names) = ap code_of names
-    by_refusal (IsUnbuilt one task joined lacks first names) = absurd (lacks circle.0
-        (subst (λ (g : GraphValue). IsBareCircle g.pipes circle.0) (one_graph asked graph one is joined) circle.1))
     by_refusal (WasOutOfMemory memory) = absurd (other memory)
 
 -- the circle of a fault is one of the graph
@@ -115,116 +109,63 @@ shown_by words fault circle (HasCircle graph found joined bare names) is =
     let same : Buffering found ≡ Buffering circle = sym names ∙ is in
     let circle_is : found ≡ circle = cc in
     (graph, joined, subst (IsBareCircle graph.pipes) circle_is bare)
-shown_by words fault circle (IsUnbuilt graph task joined none first names) is =
-    absurd (let no : NotBuilt task ≡ Buffering circle = sym names ∙ is in cc)
 shown_by words fault circle (WasOutOfMemory memory) is =
     absurd (let no : Memory ≡ Buffering circle = sym memory ∙ is in cc)
 
--- the task of a fault of what isn't built is the graph's first such task
-unbuilt_by : (words : List (List ℕ)) (fault : Fault) (task : ℕ) → IsRefusal (graph_asked words) fault →
-    fault ≡ NotBuilt task → IsUnbuiltAt words task
-unbuilt_by words fault task (WasRefused first) is = absurd (not_first words fault first (ap is_refusal is))
-unbuilt_by words fault task (HasCircle graph circle joined bare names) is =
-    absurd (let no : Buffering circle ≡ NotBuilt task = sym names ∙ is in cc)
-unbuilt_by words fault task (IsUnbuilt graph at joined none first names) is =
-    let same : NotBuilt at ≡ NotBuilt task = sym names ∙ is in
-    let task_is : at ≡ task = cc in
-    record { graph = graph; asked = joined; bare = none; first = first ∙ ap (λ t. Some t) task_is }
-unbuilt_by words fault task (WasOutOfMemory memory) is =
-    absurd (let no : Memory ≡ NotBuilt task = sym memory ∙ is in cc)
-
--- where a task isn't built and no circle is bare, words are refused for the first such task, where memory was there
-not_built_by : (asked : Result GraphValue Fault) (graph : GraphValue) (task : ℕ) (fault : Fault) → asked ≡ Ok graph →
-    HasNoCircle graph → first_unbuilt graph.tasks ≡ Some task → (fault ≡ Memory → ⊥) → IsRefusal asked fault →
-    fault ≡ NotBuilt task
-not_built_by asked graph task fault is bare first other (WasRefused refused) =
-    absurd (let no : Err fault ≡ Ok graph = sym refused ∙ is in cc)
-not_built_by asked graph task fault is bare first other (HasCircle one circle joined ring names) =
-    absurd (bare circle
-    (subst (λ (g : GraphValue). IsBareCircle g.pipes circle) (one_graph asked one graph joined is) ring))
-not_built_by asked graph task fault is bare first other (IsUnbuilt one at joined none first_is names) =
-    let same : Some at ≡ Some task =
-    sym first_is ∙ ap (λ (g : GraphValue). first_unbuilt g.tasks) (one_graph asked one graph joined is) ∙ first in
-    let task_is : at ≡ task = cc in
-    names ∙ ap (λ t. NotBuilt t) task_is
-not_built_by asked graph task fault is bare first other (WasOutOfMemory memory) = absurd (other memory)
-
 -- words whose graph is run are refused only out of memory
 memory_by : (asked : Result GraphValue Fault) (graph : GraphValue) (fault : Fault) → asked ≡ Ok graph →
-    IsRunnable graph → IsRefusal asked fault → fault ≡ Memory
-memory_by asked graph fault is runnable (WasRefused first) =
+    HasNoCircle graph → IsRefusal asked fault → fault ≡ Memory
+memory_by asked graph fault is bare (WasRefused first) =
     absurd (let no : Err fault ≡ Ok graph = sym first ∙ is in cc)
-memory_by asked graph fault is runnable (HasCircle one circle joined ring names) =
-    absurd (runnable.bare circle
+memory_by asked graph fault is bare (HasCircle one circle joined ring names) =
+    absurd (bare circle
     (subst (λ (g : GraphValue). IsBareCircle g.pipes circle) (one_graph asked one graph joined is) ring))
-memory_by asked graph fault is runnable (IsUnbuilt one at joined none first names) =
-    absurd (let no : Some at ≡ None =
-    sym first ∙ ap (λ (g : GraphValue). first_unbuilt g.tasks) (one_graph asked one graph joined is)
-    ∙ runnable.built in
-    cc)
-memory_by asked graph fault is runnable (WasOutOfMemory memory) = memory
+memory_by asked graph fault is bare (WasOutOfMemory memory) = memory
 
-ran_or_memory : (asked : Result GraphValue Fault) (before after : Moment) (status : Status) (steps : ℕ)
-    (graph : GraphValue) → asked ≡ Ok graph → IsRunnable graph → IsRefusedOrRun asked before after status steps →
+ran_or_memory : (asked : Result GraphValue Fault) (before after : Moment) (status : Status)
+    (graph : GraphValue) → asked ≡ Ok graph → HasNoCircle graph → IsRefusedOrRun asked before after status →
     RanOrHadNoMemory graph before after status
-ran_or_memory asked before after status steps graph is runnable (WereRefused r none) =
-    inr (memory_by asked graph status.fault is runnable r.fault, r.ends, r.same)
-ran_or_memory asked before after status steps graph is runnable (DidRun one joined other r) =
-    inl (subst (λ g. IsRun (command_of_graph g) before after status) (one_graph asked one graph joined is) r.run)
+ran_or_memory asked before after status graph is bare (WereRefused r) =
+    inr (memory_by asked graph status.fault is bare r.fault, r.ends, r.same)
+ran_or_memory asked before after status graph is bare (DidRun one joined other r) =
+    inl (subst (λ g. IsRun (command_of_graph g) before after status) (one_graph asked one graph joined is) r)
 
-not_built_run : (words : List (List ℕ)) (before after : Moment) (status : Status) (steps task : ℕ) →
-    IsRefusedOrRun (graph_asked words) before after status steps → (status.fault ≡ Memory → ⊥) →
-    IsUnbuiltAt words task → status.fault ≡ NotBuilt task
-not_built_run words before after status steps task (WereRefused r none) other at =
-    not_built_by (graph_asked words) at.graph task status.fault at.asked at.bare at.first other r.fault
-not_built_run words before after status steps task (DidRun one joined runnable r) other at =
-    absurd (let no : None ≡ Some task = sym runnable.built
-    ∙ ap (λ (g : GraphValue). first_unbuilt g.tasks) (one_graph (graph_asked words) one at.graph joined at.asked)
-    ∙ at.first in cc)
-
-module _ (words : List (List ℕ)) (before after : Moment) (status : Status) (steps : ℕ)
-    (run : IsWordsRun words before after status steps) where
+module _ (words : List (List ℕ)) (before after : Moment) (status : Status)
+    (run : IsWordsRun words before after status) where
   no_memory : status.code ≢ 6 → status.fault ≡ Memory → ⊥
   no_memory other memory = other (run.code ∙ ap code_of memory)
 
   pub refused_first : status.code ≢ 6 → (refusal : Fault) → graph_asked words ≡ Err refusal → status.fault ≡ refusal
   refused_first other refusal is =
-      refused_first_by (graph_asked words) before after status steps run.run refusal is (no_memory other)
+      refused_first_by (graph_asked words) before after status run.run refusal is (no_memory other)
 
   circle_there : (graph : GraphValue) → graph_asked words ≡ Ok graph → status.code ≡ 3 →
       (circle : List Sense) × IsBareCircle graph.pipes circle
   circle_there graph is three =
       let code : code_of status.fault ≡ 3 = sym run.code ∙ three in
       circle_of (graph_asked words) graph status.fault
-      (refused_by_code (graph_asked words) before after status steps run.run (inr code)).fault is code
+      (refused_by_code (graph_asked words) before after status run.run (inr code)).fault is code
 
   pub refused_circle : status.code ≢ 6 → (graph : GraphValue) → graph_asked words ≡ Ok graph →
       (status.code ≡ 3) ↔ ((circle : List Sense) × IsBareCircle graph.pipes circle)
   refused_circle other graph is = (
     circle_there graph is,
     λ circle. run.code
-        ∙ circle_by (graph_asked words) before after status steps run.run graph is (no_memory other) circle,
+        ∙ circle_by (graph_asked words) before after status run.run graph is (no_memory other) circle,
   )
 
   pub refused_shown : (circle : List Sense) → status.fault ≡ Buffering circle →
       (graph : GraphValue) × (graph_asked words ≡ Ok graph) × IsBareCircle graph.pipes circle
   refused_shown circle is =
       shown_by words status.fault circle
-      (refused_by_code (graph_asked words) before after status steps run.run (inr (ap code_of is))).fault is
-
-  pub refused_unbuilt : status.code ≢ 6 → (task : ℕ) → (status.fault ≡ NotBuilt task) ↔ IsUnbuiltAt words task
-  refused_unbuilt other task = (
-    λ is. unbuilt_by words status.fault task
-        (refused_by_code (graph_asked words) before after status steps run.run (inl (ap code_of is))).fault is,
-    λ at. not_built_run words before after status steps task run.run (no_memory other) at,
-  )
+      (refused_by_code (graph_asked words) before after status run.run (inr (ap code_of is))).fault is
 
   pub refused_same : (status.code ≡ 2) ⊎ (status.code ≡ 3) → (status.ends ≡ []) × IsUnchanged before after
   refused_same code =
-      let refused = refused_by_code (graph_asked words) before after status steps run.run
+      let refused = refused_by_code (graph_asked words) before after status run.run
       (elim code [ inl two ↦ inl (sym run.code ∙ two) | inr three ↦ inr (sym run.code ∙ three) ]) in
       (refused.ends, refused.same)
 
-  pub words_run : (graph : GraphValue) → graph_asked words ≡ Ok graph → IsRunnable graph →
+  pub words_run : (graph : GraphValue) → graph_asked words ≡ Ok graph → HasNoCircle graph →
       RanOrHadNoMemory graph before after status
-  words_run graph is runnable = ran_or_memory (graph_asked words) before after status steps graph is runnable run.run
+  words_run graph is bare = ran_or_memory (graph_asked words) before after status graph is bare run.run

@@ -1,5 +1,5 @@
 -- The run of a command at whose openings a call was refused, once the sources that were opened are closed.
-use Rattle.std.proofs.Common.{◌≡◌, ℕ, ◌+◌, ◌<◌, List, [], ◌∷◌, ◌++◌, length, Bool, true, false, ◌&&◌, refl, sym, ap, subst, ◌∙◌, arith, inl, inr}
+use Rattle.std.proofs.Common.{◌≡◌, ℕ, ◌<◌, List, [], ◌∷◌, ◌++◌, length, Bool, true, false, ◌&&◌, refl, sym, ap, subst, ◌∙◌, arith, inl, inr}
 use Rattle.std.specs.Prelude.{◌⊎◌, Contains, Option, Some, None, flat_map, if◌then◌else◌}
 use Rattle.std.specs.List.{AllByRecursion}
 use Rattle.std.proofs.lemmas.List.{append-nil}
@@ -23,7 +23,7 @@ use Rattle.osm_run.specs.Closed.{WasKept, WereClosed}
 use Rattle.osm_run.specs.declared.status.Status.{Status}
 use Rattle.osm_run.proofs.EachLemmas.{all_append, all_every}
 use Rattle.osm_run.proofs.KnownLemmas.{same_names-trans}
-use Rattle.osm_run.proofs.OpenedLemmas.{known_more}
+use Rattle.osm_run.proofs.OpeningLemmas.{known_more}
 use Rattle.osm_run.proofs.StoppedLemmas.{memory_run, stop_op, stop_use, stopped_run}
 use Rattle.osm_run.proofs.UsesLemmas.{opened_to-all}
 use Rattle.osm_run.proofs.BeforeLemmas.{StopsAt, sinks_all, sinks_below, stop_place, stops_at_sink, stops_at_source}
@@ -143,9 +143,9 @@ stopped_at_sink k before now after devices fault status plain stop closed is end
     is ends stop.refused
 
 -- the run of a command that was out of memory before anything was opened
-pub nothing_opened : (k : Command) (moment : Moment) (status : Status) → AllByRecursion ReadsOrWrites k.plan →
+pub nothing_happened : (k : Command) (moment : Moment) (status : Status) →
     status.fault ≡ Memory → status.ends ≡ [] → IsIdleRun k moment moment status
-nothing_opened k moment status plain fault ends =
+nothing_happened k moment status fault ends =
     memory_run k moment moment [] [] (openings k.plan) 0 status refl (made_none moment.files) tt
     (all_every (λ v. is_sink v ≡ true → v.0 < 0 → Contains [] v) (λ v passes less. absurd (omega (arith, less)))
     (uses k.plan))
@@ -157,6 +157,10 @@ nothing_opened k moment status plain fault ends =
       made_none : (files : Option Files) → WhereTold files files (FilesMade [])
       made_none None = tt
       made_none (Some m) = (m, refl, λ n. refl)
+
+pub nothing_opened : (k : Command) (moment : Moment) (status : Status) → AllByRecursion ReadsOrWrites k.plan →
+    status.fault ≡ Memory → status.ends ≡ [] → IsIdleRun k moment moment status
+nothing_opened k moment status plain = nothing_happened k moment status
 
 -- the run of a command whose files were all opened, and which then was out of memory before its tasks ran
 pub memory_after_opening : (k : Command) (before now after : Moment) (devices : List DeviceSeen) (status : Status) →

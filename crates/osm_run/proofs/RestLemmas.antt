@@ -21,7 +21,7 @@ use Rattle.osm_run.specs.Closed.{FilesKeptTo, WasKept, WereClosed, are_there, fa
 use Rattle.osm_run.proofs.CallLemmas.{raised-none}
 use Rattle.osm_run.proofs.CleanLemmas.{told_more}
 use Rattle.osm_run.proofs.EachLemmas.{all_every, none_any}
-use Rattle.osm_run.proofs.StoppedLemmas.{sum_of_none}
+use Rattle.osm_run.proofs.NothingGivenLemmas.{sum_of_none}
 use Rattle.osm_run.proofs.UsesLemmas.{by_plain, plain_at}
 
 -- nothing came of a device, and none of its calls failed

@@ -11,10 +11,10 @@ use Rattle.osm_run.specs.Command.{Command}
 use Rattle.osm_run.specs.Course.{Course, any_failed}
 use Rattle.osm_run.specs.HowFar.{AfterMemory, AfterStop, AfterTasks, FilesAfter, FilesMade, HowFar, FilesAtMemory, OutOfMemory, Ran, Stopped, WhereTold}
 use Rattle.osm_run.specs.OnHost.{CountsBy, IsCourse, SameNames}
-use Rattle.osm_run.specs.Outcome.{IsSaid}
+use Rattle.osm_run.specs.Outcome.{IsRun, IsSaid}
 use Rattle.osm_run.specs.Plan.{Plan, names_of}
 use Rattle.osm_run.specs.Commands.{command_of_graph}
-use Rattle.osm_run.specs.WordsRun.{DidRun, IsCountedRun, IsRefusedOrRun, TakesSteps, WereRefused}
+use Rattle.osm_run.specs.WordsRun.{DidRun, IsRefusedOrRun, TakesSteps, TakesStepsOf, WereRefused}
 use Rattle.osm_run.specs.declared.status.Status.{Status}
 
 -- what is said after a run in which nothing was said
@@ -78,29 +78,25 @@ module _ (before between after : Moment) (files : after.files ≡ between.files)
   far_later k c status (Ran t) = Ran (tasks_later k c status t)
   far_later k c status (OutOfMemory m) = OutOfMemory (memory_later k c status m)
 
-  steps_later : (g : GraphValue) (c : Course) (status : Status) (steps : ℕ) →
-      (far : HowFar (command_of_graph g) c before between status) → TakesSteps g c status.ends far steps →
-      TakesSteps g c status.ends (far_later (command_of_graph g) c status far) steps
+  steps_later : (k : Command) (c : Course) (status : Status) (steps : ℕ) →
+      (far : HowFar k c before between status) → TakesSteps k c status.ends far steps →
+      TakesSteps k c status.ends (far_later k c status far) steps
   unfolding far_later
-  steps_later g c status steps (Stopped stop) took = took
-  steps_later g c status steps (Ran tasks) took = took
-  steps_later g c status steps (OutOfMemory memory) took = took
+  steps_later k c status steps (Stopped stop) took = took
+  steps_later k c status steps (Ran tasks) took = took
+  steps_later k c status steps (OutOfMemory memory) took = took
 
-  counted_later : (g : GraphValue) (status : Status) (steps : ℕ) → IsCountedRun g before between status steps →
-      IsCountedRun g before after status steps
-  counted_later g status steps r = record {
-    run = record {
-      course = r.run.course;
-      is_course = course_later (command_of_graph g).plan r.run.course r.run.is_course;
-      how_far = far_later (command_of_graph g) r.run.course status r.run.how_far;
-    };
-    counted = steps_later g r.run.course status steps r.run.how_far r.counted;
+  run_later : (k : Command) (status : Status) → IsRun k before between status → IsRun k before after status
+  run_later k status r = record {
+    course = r.course;
+    is_course = course_later k.plan r.course r.is_course;
+    how_far = far_later k r.course status r.how_far;
   }
 
   -- the run of words is the same where only what was said changed after it
-  pub outcome_later : (asked : Result GraphValue Fault) (status : Status) (steps : ℕ) →
-      IsRefusedOrRun asked before between status steps → IsRefusedOrRun asked before after status steps
-  outcome_later asked status steps (WereRefused r none) = WereRefused (record {
+  pub outcome_later : (asked : Result GraphValue Fault) (status : Status) →
+      IsRefusedOrRun asked before between status → IsRefusedOrRun asked before after status
+  outcome_later asked status (WereRefused r) = WereRefused (record {
     fault = r.fault;
     ends = r.ends;
     same = record {
@@ -109,6 +105,15 @@ module _ (before between after : Moment) (files : after.files ≡ between.files)
       gave = λ n. gave n ∙ r.same.gave n;
       known = known ∙ r.same.known;
     };
-  }) none
-  outcome_later asked status steps (DidRun graph is runnable r) =
-      DidRun graph is runnable (counted_later graph status steps r)
+  })
+  outcome_later asked status (DidRun graph is runnable r) =
+      DidRun graph is runnable (run_later (command_of_graph graph) status r)
+
+  -- and it took the same steps
+  pub counted_later : (asked : Result GraphValue Fault) (status : Status) (steps : ℕ) →
+      (run : IsRefusedOrRun asked before between status) → TakesStepsOf run steps →
+      TakesStepsOf (outcome_later asked status run) steps
+  unfolding outcome_later run_later
+  counted_later asked status steps (WereRefused r) took = took
+  counted_later asked status steps (DidRun graph is runnable r) took =
+      steps_later (command_of_graph graph) r.course status steps r.how_far took

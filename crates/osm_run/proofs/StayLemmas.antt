@@ -1,6 +1,6 @@
 -- What stays: names that no writer has, and all of it where words were refused or no sink was opened.
 use Rattle.std.proofs.Common.{◌≡◌, ℕ, List, [], ◌∷◌, ◌++◌, Bool, true, false, ◌&&◌, ◌||◌, refl, sym, ap, subst, ◌∙◌, arith, inl, inr, append_assoc}
-use Rattle.std.specs.Prelude.{Option, Some, None, ◌⊎◌, nat_lt, if◌then◌else◌, filter}
+use Rattle.std.specs.Prelude.{Some, ◌⊎◌, nat_lt, if◌then◌else◌, filter}
 use Rattle.std.specs.FinMap as finite
 use Rattle.std.specs.List.{AllByRecursion, list_any}
 use Rattle.osm_host.specs.Contents.{Files}

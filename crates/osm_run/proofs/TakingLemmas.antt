@@ -1,11 +1,14 @@
--- Machines and their devices, with one more of each.
-use Rattle.std.proofs.Common.{◌≡◌, ℕ, zero, suc, ◌+◌, ◌<◌, List, [], ◌∷◌, ◌++◌, length, map, true, get_or, inl, inr, refl, sym, ap, subst, ◌∙◌, arith}
+-- Machines with their areas and devices, with one more of each.
+use Rattle.std.proofs.Common.{◌≡◌, ℕ, zero, suc, ◌+◌, ◌<◌, List, [], ◌∷◌, ◌++◌, length, map, get_or, inl, inr, refl, sym, ap, subst, ◌∙◌, arith}
+use Rattle.std.specs.Prelude.{Option, None, slice_set, ⊤}
 use Rattle.std.proofs.lemmas.Bool.{cases_lt}
+use Rattle.std.proofs.lemmas.List.{get_or-set_other}
+use Rattle.osm_area.specs.declared.area.Area.{Area}
 use Rattle.osm_graph.specs.Graphs.{no_task}
-use Rattle.osm_machine.specs.TaskMeanings.{is_kind_built}
+use Rattle.osm_machine.specs.TaskMeanings.{IsGivenWhere, reads_area}
 use Rattle.osm_tasks.specs.Tasks.{TaskValue}
-use Rattle.osm_run.specs.Commands.{kind_at, kind_files}
-use Rattle.osm_run.specs.Leaving.{AreFresh, AreTasksBuilt, IsFresh}
+use Rattle.osm_run.specs.Commands.{area_at, kind_at, kind_files}
+use Rattle.osm_run.specs.Leaving.{AreAreasFor, AreFresh, IsFresh}
 use Rattle.osm_run.specs.Went.{AreDevicesFor, DeviceSeen, IsDeviceFor, NoDevice, device_at}
 use Rattle.osm_run.proofs.LeavingLemmas.{get_or_before, get_or_behind, map_both, map_length, stands_within}
 
@@ -88,15 +91,10 @@ device_here tasks seen all xs ys x at task is place pairs here =
     (subst (λ dv. IsDeviceFor (kind_files (kind_at tasks at)) dv) (device_behind seen xs ys x all at is place)
     (pairs.each at known))
 
--- it is as it was opened, and the task is built
+-- it is as it was opened
 pub fresh_here : {X : Type 0} (seen : X → DeviceSeen) (all xs ys : List X) (x : X) (at : ℕ) →
     xs ++ x ∷ ys ≡ all → at ≡ length xs → AreFresh (map seen all) → IsFresh (seen x)
 fresh_here seen all xs ys x at is place fresh = subst IsFresh (device_behind seen xs ys x all at is place) (fresh at)
-
-pub built_here : (tasks : List TaskValue) (at : ℕ) (task : TaskValue) → at < length tasks →
-    task ≡ get_or tasks at task → AreTasksBuilt tasks → is_kind_built task.kind ≡ true
-built_here tasks at task known here built =
-    sym (ap is_kind_built (kind_here tasks at task known here)) ∙ built at known
 
 -- what holds of each machine and its device holds of a list with one more
 pub each_pushed : {X M : Type 0} (P : ℕ → DeviceSeen → M → Type 0) (seen : X → DeviceSeen) (devices : List X) (x : X)
@@ -107,3 +105,18 @@ pub each_pushed : {X M : Type 0} (P : ℕ → DeviceSeen → M → Type 0) (seen
 each_pushed P seen devices x ms m now pushed count old new t d known =
     subst (λ zs. P t (device_at (map seen (devices ++ x ∷ [])) t) (get_or zs t d)) (sym pushed)
     (each_more P seen devices x ms m count old new t d known)
+
+-- ---- areas
+
+-- the area that is taken for a task is one for its kind
+pub area_here : (tasks : List TaskValue) (at : ℕ) (task : TaskValue) → at < length tasks → task ≡ get_or tasks at task →
+    (all areas : List (Option Area)) (area : Option Area) → AreAreasFor tasks all → area_at areas at ≡ area_at all at →
+    area ≡ area_at areas at → IsGivenWhere (reads_area task.kind) area (λ a. ⊤)
+area_here tasks at task known here all areas area are left taken =
+    subst (λ kind. IsGivenWhere (reads_area kind) area (λ a. ⊤)) (kind_here tasks at task known here)
+    (subst (λ o. IsGivenWhere (reads_area (kind_at tasks at)) o (λ a. ⊤)) (sym (taken ∙ left)) (are.each at known))
+
+-- an area that is taken out leaves the others
+pub area_beside : (areas : List (Option Area)) (at t : ℕ) → at < t →
+    area_at (slice_set areas at None) t ≡ area_at areas t
+area_beside areas at t less = get_or-set_other areas at t None None (λ is. absurd (omega (arith, less, is)))

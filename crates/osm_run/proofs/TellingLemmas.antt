@@ -29,7 +29,7 @@ use Rattle.osm_run.proofs.ClosedCountLemmas.{any_before}
 use Rattle.osm_run.proofs.EachLemmas.{all_more, any_none, filter_each, none_any}
 use Rattle.osm_run.proofs.PlanLemmas.{all_openings}
 use Rattle.osm_run.proofs.BeforeLemmas.{filter_some}
-use Rattle.osm_run.proofs.StoppedLemmas.{flat_map_same}
+use Rattle.osm_run.proofs.NothingGivenLemmas.{flat_map_same}
 use Rattle.osm_run.proofs.UsesLemmas.{below_uses, each_use, opened_to-all, plain_at, uses-take_all}
 use Rattle.osm_run.proofs.ToldCallLemmas.{call_test, gives_kept, keep_faults_same, keeps_by, lost_memory, sink_calls, sink_gives, sink_is_opened, sink_test, sink_without, source_calls, source_test, told_three, whole_file}
 use Rattle.osm_run.proofs.ToldFileLemmas.{by_told, given_alike, gives_told, raised_alike, sum_opened, written_file}

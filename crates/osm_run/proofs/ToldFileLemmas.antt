@@ -112,7 +112,7 @@ raised_alike c n t (files ∷ plan) (d ∷ devices) count each before =
     ∙ ap (raised before) (sym (sum_by-append (given_under c n) (uses_of (t, files)) (uses_from (t + 1) plan)))
 
 -- a file whose source gave these bytes begins with them
-reads_from : (file bytes : List ℕ) (clean : Bool) (rest : Option (List ℕ)) → Some file ≡ prepend_known bytes rest →
+pub reads_from : (file bytes : List ℕ) (clean : Bool) (rest : Option (List ℕ)) → Some file ≡ prepend_known bytes rest →
     (clean ≡ true → IsAtEnd rest) → IsReadFrom bytes clean (Some file)
 reads_from file bytes clean None told ended = absurd (let no : Some file ≡ None = told in cc)
 reads_from file bytes clean (Some left) told ended = record { rest = left; there = told; whole = ended }

@@ -29,6 +29,8 @@ use Rattle.osm_merge.specs.declared.merge.Merge.{Merge}
 use Rattle.osm_merge.proofs.AppendMachine.{append_keeps}
 use Rattle.osm_merge.proofs.HeadsMachine.{heads_keep}
 use Rattle.osm_merge.proofs.TwoInputLemmas.{KeepsRuleOfTwo, within_keeps}
+use Rattle.osm_select.specs.Selecting.{selecting}
+use Rattle.osm_select.proofs.SelectingLemmas.{selecting_keeps}
 use Rattle.osm_sort.specs.SortMachine.{sorting}
 use Rattle.osm_sort.proofs.SortMachineLemmas.{sort_keeps}
 use Rattle.osm_used.specs.Using.{keeping_used}
@@ -41,7 +43,7 @@ use Rattle.osm_machine.specs.Making.{making_verdict}
 use Rattle.osm_machine.specs.Reading.{IsReady, reading_verdict, reading_wants, ready_items}
 use Rattle.osm_machine.specs.ReadingFiles.{FileStands, file_verdict}
 use Rattle.osm_machine.specs.declared.kind.MachineKind.{MachineKind}
-use Rattle.osm_machine.specs.declared.kind.MachineKind.TheVariants.{Read, Make, Nothing, Write as Writes, Drops, Copies, Filters, UsesNodes, UsesWays, Sorts, Merges, Appends, Applies, Simplifies}
+use Rattle.osm_machine.specs.declared.kind.MachineKind.TheVariants.{Read, Make, Nothing, Write as Writes, Drops, Copies, Filters, UsesNodes, UsesWays, Sorts, Merges, Appends, Applies, Simplifies, Selects}
 use Rattle.osm_machine.specs.declared.making.Progress.{Progress}
 use Rattle.osm_machine.specs.declared.making.Progress.TheVariants.{Going, Closed as MadeClosed, Stopped as MadeStopped}
 use Rattle.osm_machine.specs.declared.reader.FileReader.{FileReader}
@@ -143,3 +145,4 @@ unwritten (Applies m) x y given s want none =
     two_unwritten applying (within_keeps (λ (a : Apply). a.heads) (heads_of (λ (c : Changes). laid_over))
     (heads_keep (λ (c : Changes). laid_over) (λ c. laid_over_is_choice))) m (x 0) (x 1) (y 0) s.stands want
 unwritten (Simplifies m) x y given s want none = one_unwritten simplifying simplify_keeps m (x 0) (y 0) s.stands want
+unwritten (Selects m) x y given s want none = one_unwritten selecting selecting_keeps m (x 0) (y 0) s.stands want

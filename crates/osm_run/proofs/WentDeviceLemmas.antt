@@ -12,7 +12,7 @@ use Rattle.osm_machine.specs.MachineDevices.{AreDevicesTold, BothTell, DeviceNam
 use Rattle.osm_machine.specs.MachineKinds.{machines}
 use Rattle.osm_machine.specs.Sinks.{SinkSeen}
 use Rattle.osm_machine.specs.declared.kind.MachineKind.{MachineKind}
-use Rattle.osm_machine.specs.declared.kind.MachineKind.TheVariants.{Read, Make, Nothing, Write, Drops, Copies, Filters, UsesNodes, UsesWays, Sorts, Merges, Appends, Applies, Simplifies}
+use Rattle.osm_machine.specs.declared.kind.MachineKind.TheVariants.{Read, Make, Nothing, Write, Drops, Copies, Filters, UsesNodes, UsesWays, Sorts, Merges, Appends, Applies, Simplifies, Selects}
 use Rattle.osm_run.specs.Course.{Course}
 use Rattle.osm_run.specs.OnHost.{CountsBy}
 use Rattle.osm_run.specs.Went.{DeviceSeen, NoDevice, SeenSource, SeenSink, DeviceTells, SinkTells, SourceTells, device_of, machine_end, sink_in, source_in}
@@ -38,6 +38,7 @@ device_source (Merges m) s is = cc
 device_source (Appends m) s is = cc
 device_source (Applies m) s is = cc
 device_source (Simplifies m) s is = cc
+device_source (Selects m) s is = cc
 
 -- a machine of this sink, and what it wrote
 pub device_sink : {S K : Type 0} (m : MachineKind S K) (k : SinkSeen) → sink_of m ≡ Some k →
@@ -57,6 +58,7 @@ device_sink (Merges m) k is = cc
 device_sink (Appends m) k is = cc
 device_sink (Applies m) k is = cc
 device_sink (Simplifies m) k is = cc
+device_sink (Selects m) k is = cc
 
 pub device_none : {S K : Type 0} (m : MachineKind S K) → source_of m ≡ None → sink_of m ≡ None → device_of m ≡ NoDevice
 device_none (Read m) source sink = cc
@@ -73,6 +75,7 @@ device_none (Merges m) source sink = refl
 device_none (Appends m) source sink = refl
 device_none (Applies m) source sink = refl
 device_none (Simplifies m) source sink = refl
+device_none (Selects m) source sink = refl
 
 -- the entry of a machine that reads
 pub end_of_reader : {S K : Type 0} (t : ℕ) (m : MachineKind S K) (s : SourceSeen) → source_of m ≡ Some s →
@@ -91,6 +94,7 @@ end_of_reader t (Merges m) s is = cc
 end_of_reader t (Appends m) s is = cc
 end_of_reader t (Applies m) s is = cc
 end_of_reader t (Simplifies m) s is = cc
+end_of_reader t (Selects m) s is = cc
 
 pub end_of_none : {S K : Type 0} (t : ℕ) (m : MachineKind S K) → source_of m ≡ None → machine_end (t, m) ≡ []
 end_of_none t (Read m) is = cc
@@ -107,6 +111,7 @@ end_of_none t (Merges m) is = refl
 end_of_none t (Appends m) is = refl
 end_of_none t (Applies m) is = refl
 end_of_none t (Simplifies m) is = refl
+end_of_none t (Selects m) is = refl
 
 -- ---- devices at both moments
 

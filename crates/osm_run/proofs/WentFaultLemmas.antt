@@ -20,7 +20,6 @@ use Rattle.osm_run.specs.Course.{Course, call_fault, source_limit, task_faults, 
 use Rattle.osm_run.specs.HowFar.{HowRead, ReachedEnd, PassedLimit, PullFailed, WasWrong}
 use Rattle.osm_run.specs.Plan.{File, Sink, Source}
 use Rattle.osm_run.specs.Went.{verdict_faults}
-use Rattle.osm_run.proofs.KindLemmas.{AreIdle, NoFile, OnlyPolygon}
 use Rattle.osm_run.proofs.SameFirstLemmas.{SameFirst, same_none, same_one}
 
 -- ---- how a source was read
@@ -129,15 +128,10 @@ idle_first t limit count (Wrong cause spot) uncut = same_one (Input t cause spot
 
 -- the faults of a task without a file begin as its verdict says
 pub idle_faults : (c : Course) (m : Meaning) (t limit count : ℕ) (files : List File) (finish : Finish)
-    (verdict : Verdict) → AreIdle files → m.finish t ≡ finish → finish ≢ Cut →
+    (verdict : Verdict) → files ≡ [] → m.finish t ≡ finish → finish ≢ Cut →
     verdict ≡ verdict_as limit count finish → SameFirst (task_faults m c (t, files)) (verdict_faults (t, verdict))
-idle_faults c m t limit count files finish verdict (NoFile none) is uncut judges =
+idle_faults c m t limit count files finish verdict none is uncut judges =
     subst (λ fs. SameFirst (task_faults m c (t, fs)) (verdict_faults (t, verdict))) (sym none)
-    (subst (λ v. SameFirst (wrong_fault t (m.finish t) ++ []) (verdict_faults (t, v))) (sym judges)
-    (subst (λ f. SameFirst (wrong_fault t f ++ []) (verdict_faults (t, verdict_as limit count finish))) (sym is)
-    (idle_first t limit count finish uncut)))
-idle_faults c m t limit count files finish verdict (OnlyPolygon name one) is uncut judges =
-    subst (λ fs. SameFirst (task_faults m c (t, fs)) (verdict_faults (t, verdict))) (sym one)
     (subst (λ v. SameFirst (wrong_fault t (m.finish t) ++ []) (verdict_faults (t, v))) (sym judges)
     (subst (λ f. SameFirst (wrong_fault t f ++ []) (verdict_faults (t, verdict_as limit count finish))) (sym is)
     (idle_first t limit count finish uncut)))

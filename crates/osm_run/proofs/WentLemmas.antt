@@ -19,7 +19,7 @@ use Rattle.osm_machine.proofs.DeviceLemmas.{devices_told}
 use Rattle.osm_net.specs.Histories.{History, gave_by, most_pulls, took_by}
 use Rattle.osm_net.specs.Meaning.{rules_of, sum_below}
 use Rattle.osm_net.specs.Runs.{AreCountedRun, AreRun, IsMeant, KeepNames, course_of}
-use Rattle.osm_run.specs.Commands.{command_of_graph, courses_of, inputs_at, kind_at, kind_files, plan_of, streams_of, task_meant}
+use Rattle.osm_run.specs.Commands.{Areas, command_with, courses_of, inputs_at, kind_at, kind_files, plan_of, streams_of, task_meant}
 use Rattle.osm_run.specs.Course.{Course, entries, entry, first_fault, meaning_of, source_limit, task_faults}
 use Rattle.osm_run.specs.HowFar.{WasUsed}
 use Rattle.osm_run.specs.Plan.{Plan, is_polygon, numbered, openings, uses, uses_of}
@@ -54,9 +54,9 @@ went_course plan given now = record {
 abbrev no_machine : {S K : Type 0} → MachineKind S K
 no_machine = Nothing (record { closed = false })
 
-module _ {S K : Type 0} (g : GraphValue) (graph : IsGraph g) (opened : List DeviceSeen)
+module _ {S K : Type 0} (g : GraphValue) (areas : Areas) (graph : IsGraph g) (opened : List DeviceSeen)
     (fits : AreDevicesFor g.tasks opened) (before after : List (MachineKind S K))
-    (made : AreMachinesOf g.tasks opened before) (memory : Bool)
+    (made : AreMachinesOf g.tasks areas opened before) (memory : Bool)
     (run : AreRun machines g.pipes before after memory) (names : KeepNames device_names before after) where
   abbrev history : History (MachineKind S K)
   history = run.history no_machine
@@ -71,7 +71,7 @@ module _ {S K : Type 0} (g : GraphValue) (graph : IsGraph g) (opened : List Devi
   came t = (history.given t).came
 
   abbrev meant_streams : ℕ → Stream
-  meant_streams = streams_of g read_bytes came
+  meant_streams = streams_of g areas read_bytes came
 
   abbrev base : Course
   base = went_course (plan_of g.tasks) history.given now
@@ -82,27 +82,27 @@ module _ {S K : Type 0} (g : GraphValue) (graph : IsGraph g) (opened : List Devi
   known_after : (t : ℕ) → t < length g.tasks → t < length after
   known_after t known = omega (arith, known, made.count, run.count)
 
-  task_is : (t : ℕ) → t < length g.tasks → machines.task (now t) ≡ task_meant g.tasks t
+  task_is : (t : ℕ) → t < length g.tasks → machines.task (now t) ≡ task_meant g.tasks areas t
   task_is t known = run.same t no_machine (known_before t known) ∙ (made.each t no_machine known).task_is
 
   -- the streams of the graph by the course are what the run means
   streams_meant : IsMeant machines g.pipes now history meant_streams
   unfolding SameOf
-  streams_meant = meant_alike g graph (rules_of (courses_of g.tasks read_bytes came))
+  streams_meant = meant_alike g graph (rules_of (courses_of g.tasks areas read_bytes came))
       (rules_of (course_of machines now history))
-      (λ t f port known. (same_cut (kind_at g.tasks t) (history.given t).bytes (came t) f).0 port
+      (λ t f port known. (same_cut (kind_at g.tasks t) (areas t) (history.given t).bytes (came t) f).0 port
       ∙ ap (λ (task : TaskMeaning). task.gives (history.given t).bytes (came t) f port) (sym (task_is t known)))
-      meant_streams (streams_are_meant g graph read_bytes came)
+      meant_streams (streams_are_meant g graph areas read_bytes came)
 
   module _ (keeps : ℕ → Bool) where
     abbrev course : Course
     course = with_keeps keeps base
 
     abbrev meaning : Meaning
-    meaning = meaning_of (command_of_graph g) course
+    meaning = meaning_of (command_with g areas) course
 
-    here_at : (t : ℕ) → t < length g.tasks → Here course meaning t (kind_at g.tasks t) (device_at opened t)
-        (get_or before t no_machine) (now t) (history.given t) (inputs_at g read_bytes came t)
+    here_at : (t : ℕ) → t < length g.tasks → Here course meaning t (kind_at g.tasks t) (areas t) (device_at opened t)
+        (get_or before t no_machine) (now t) (history.given t) (inputs_at g areas read_bytes came t)
     unfolding SameOf
     here_at t known = record {
       went = record {
@@ -115,11 +115,12 @@ module _ {S K : Type 0} (g : GraphValue) (graph : IsGraph g) (opened : List Devi
       at = record { given_is = refl; clean_is = refl; pulls = refl; puts = refl };
       fits = fits.each t known;
       task = task_is t known;
-      finish = (same_cut (kind_at g.tasks t) (history.given t).bytes (came t) (inputs_at g read_bytes came t)).1;
+      finish = (same_cut (kind_at g.tasks t) (areas t) (history.given t).bytes (came t)
+          (inputs_at g areas read_bytes came t)).1;
     }
 
     over_at : memory ≡ false → (t : ℕ) → t < length g.tasks →
-        Over (kind_at g.tasks t) (now t) (history.given t) (inputs_at g read_bytes came t)
+        Over (kind_at g.tasks t) (areas t) (now t) (history.given t) (inputs_at g areas read_bytes came t)
     over_at there t known = record {
       took = took_by g.pipes history t;
       gave = gave_by g.pipes history t;
@@ -127,7 +128,7 @@ module _ {S K : Type 0} (g : GraphValue) (graph : IsGraph g) (opened : List Devi
       ended = (run.run no_machine).ended there t (known_before t known);
       judged = λ un. ((run.run no_machine).whole there meant_streams streams_meant).judged t (known_before t known) un
           ∙ ap (λ (task : TaskMeaning). verdict_as task.limit (length (history.given t).bytes)
-          (task.finish (history.given t).bytes (came t) (inputs_at g read_bytes came t))) (task_is t known);
+          (task.finish (history.given t).bytes (came t) (inputs_at g areas read_bytes came t))) (task_is t known);
     }
 
     told_at : (t : ℕ) → t < length g.tasks →
@@ -138,11 +139,11 @@ module _ {S K : Type 0} (g : GraphValue) (graph : IsGraph g) (opened : List Devi
         (sym (get_or-map device_of after t no_machine NoDevice (known_after t known)))
         (task_tells (get_or before t no_machine) (now t) (history.given t) course meaning memory t here.at
         (subst (λ (task : TaskMeaning). WrotePrefix (machines.wrote (now t)) (task.text
-        (inputs_at g read_bytes came t)))
+        (inputs_at g areas read_bytes came t)))
         (task_is t known)
         (((run.run no_machine).so_far meant_streams streams_meant).wrote t (known_before t known)))
         (λ there un. subst
-        (λ (task : TaskMeaning). WroteAll (machines.wrote (now t)) (task.text (inputs_at g read_bytes came t)))
+        (λ (task : TaskMeaning). WroteAll (machines.wrote (now t)) (task.text (inputs_at g areas read_bytes came t)))
         (task_is t known)
         (((run.run no_machine).whole there meant_streams streams_meant).wrote t (known_before t known) un))
         (device_at opened t) here.went)
@@ -159,17 +160,17 @@ module _ {S K : Type 0} (g : GraphValue) (graph : IsGraph g) (opened : List Devi
         (plan_of g.tasks) lengths
         (λ t known. subst (λ files. machine_end (t, now t) ≡ flat_map (entry course) (uses_of (t, files)))
         (sym (files_at g.tasks t (in_plan t known)))
-        (end_is course meaning t (kind_at g.tasks t) (device_at opened t) (get_or before t no_machine) (now t)
-        (history.given t) (inputs_at g read_bytes came t) (here_at t (in_plan t known))
-        (sort_of_kind (kind_at g.tasks t)))))
+        (end_is course meaning t (kind_at g.tasks t) (areas t) (device_at opened t) (get_or before t no_machine) (now t)
+        (history.given t) (inputs_at g areas read_bytes came t) (here_at t (in_plan t known))
+        (sort_of_kind (kind_at g.tasks t) (areas t)))))
 
     first_at : memory ≡ false → (t : ℕ) → t < length g.tasks →
         SameFirst (task_faults meaning course (t, kind_files (kind_at g.tasks t))) (verdict_faults
         (t, machines.verdict (now t)))
     first_at there t known =
-        first_is course meaning t (kind_at g.tasks t) (device_at opened t) (get_or before t no_machine) (now t)
-        (history.given t) (inputs_at g read_bytes came t) (here_at t known) (over_at there t known)
-        (sort_of_kind (kind_at g.tasks t))
+        first_is course meaning t (kind_at g.tasks t) (areas t) (device_at opened t) (get_or before t no_machine)
+        (now t) (history.given t) (inputs_at g areas read_bytes came t) (here_at t known) (over_at there t known)
+        (sort_of_kind (kind_at g.tasks t) (areas t))
 
     faults_begin : memory ≡ false → SameFirst (flat_map (task_faults meaning course) (numbered (plan_of g.tasks)))
         (flat_map verdict_faults (enumerate_from 0 (map machines.verdict after)))
@@ -188,13 +189,14 @@ module _ {S K : Type 0} (g : GraphValue) (graph : IsGraph g) (opened : List Devi
         (flat_map verdict_faults (enumerate_from 0 (map machines.verdict after))) more (faults_begin there)
 
     used_are : memory ≡ false → AllByRecursion
-        (λ u. is_polygon u ≡ false → WasUsed (command_of_graph g) course u) (uses (plan_of g.tasks))
-    used_are there = all_of_files (λ u. is_polygon u ≡ false → WasUsed (command_of_graph g) course u) g.tasks
-        (λ t known. used_by (command_of_graph g) course t (kind_at g.tasks t) (sort_of_kind (kind_at g.tasks t))
+        (λ u. is_polygon u ≡ false → WasUsed (command_with g areas) course u) (uses (plan_of g.tasks))
+    used_are there = all_of_files (λ u. is_polygon u ≡ false → WasUsed (command_with g areas) course u) g.tasks
+        (λ t known. used_by (command_with g areas) course t (kind_at g.tasks t) (areas t)
+        (sort_of_kind (kind_at g.tasks t) (areas t))
         (λ format name files meant.
         let d = reader_device (kind_files (kind_at g.tasks t)) name (device_at opened t) files (fits.each t known) in
-        read_at course meaning t (kind_at g.tasks t) (device_at opened t) (get_or before t no_machine) (now t)
-        (history.given t) (inputs_at g read_bytes came t) (here_at t known)
+        read_at course meaning t (kind_at g.tasks t) (areas t) (device_at opened t) (get_or before t no_machine) (now t)
+        (history.given t) (inputs_at g areas read_bytes came t) (here_at t known)
         (over_at there t known) format d.0 d.1 meant))
 
     counted_are : (t : ℕ) (d : MachineKind S K) (source : SourceSeen) → t < length g.tasks →
@@ -203,12 +205,12 @@ module _ {S K : Type 0} (g : GraphValue) (graph : IsGraph g) (opened : List Devi
     counted_are t d source known is =
         subst (λ m. (bytes_counted m ≡ length (course.given t)) × (has_come m ≡ course.clean t))
         (get_or_default after t no_machine d (known_after t known))
-        (counted_by course meaning t (kind_at g.tasks t) (device_at opened t) (get_or before t no_machine)
+        (counted_by course meaning t (kind_at g.tasks t) (areas t) (device_at opened t) (get_or before t no_machine)
         (now t)
-        (history.given t) (inputs_at g read_bytes came t) (here_at t known) (sort_of_kind
-        (kind_at g.tasks t)) source is)
+        (history.given t) (inputs_at g areas read_bytes came t) (here_at t known) (sort_of_kind
+        (kind_at g.tasks t) (areas t)) source is)
 
-    have_run : HaveRun g opened after memory course
+    have_run : HaveRun g areas opened after memory course
     have_run = record {
       count = run.count ∙ made.count;
       all_opened = refl;
@@ -236,45 +238,46 @@ module _ {S K : Type 0} (g : GraphValue) (graph : IsGraph g) (opened : List Devi
         no_machine [] after (plan_of g.tasks) lengths
         (λ t known. subst (λ files. f t ≡ sum_by pulls_of (flat_map (entry course) (uses_of (t, files))))
         (sym (files_at g.tasks t (in_plan t known)))
-        (pulls_is course meaning t (kind_at g.tasks t) (device_at opened t) (get_or before t no_machine) (now t)
-        (history.given t) (inputs_at g read_bytes came t) (here_at t (in_plan t known))
-        (sort_of_kind (kind_at g.tasks t)))))
+        (pulls_is course meaning t (kind_at g.tasks t) (areas t) (device_at opened t) (get_or before t no_machine)
+        (now t) (history.given t) (inputs_at g areas read_bytes came t) (here_at t (in_plan t known))
+        (sort_of_kind (kind_at g.tasks t) (areas t)))))
         ∙ sym (no_more pulls)
 
 -- ---- what the composition of a run builds on
 
 -- a run of the machines of a graph has a course of its command
-pub tasks_have_run : {S K : Type 0} (g : GraphValue) (opened : List DeviceSeen) (before after : List (MachineKind S K))
-    (memory : Bool) → IsGraph g → AreDevicesFor g.tasks opened → AreMachinesOf g.tasks opened before →
+pub tasks_have_run : {S K : Type 0} (g : GraphValue) (areas : Areas) (opened : List DeviceSeen)
+    (before after : List (MachineKind S K)) (memory : Bool) → IsGraph g → AreDevicesFor g.tasks opened →
+    AreMachinesOf g.tasks areas opened before →
     AreRun machines g.pipes before after memory → KeepNames device_names before after →
-    (c : Course) × ((keeps : ℕ → Bool) → HaveRun g opened after memory (with_keeps keeps c))
-tasks_have_run g opened before after memory graph fits made run names = (
-  base g graph opened fits before after made memory run names,
-  have_run g graph opened fits before after made memory run names,
+    (c : Course) × ((keeps : ℕ → Bool) → HaveRun g areas opened after memory (with_keeps keeps c))
+tasks_have_run g areas opened before after memory graph fits made run names = (
+  base g areas graph opened fits before after made memory run names,
+  have_run g areas graph opened fits before after made memory run names,
 )
 
 -- and its steps are counted
-pub counted_tasks_have_run : {S K : Type 0} (g : GraphValue) (opened : List DeviceSeen)
+pub counted_tasks_have_run : {S K : Type 0} (g : GraphValue) (areas : Areas) (opened : List DeviceSeen)
     (before after : List (MachineKind S K)) (memory : Bool) (steps : ℕ) → IsGraph g → AreDevicesFor g.tasks opened →
-    AreMachinesOf g.tasks opened before →
+    AreMachinesOf g.tasks areas opened before →
     AreCountedRun machines (λ m. is_some (device_names m).source) g.pipes before after memory steps →
     KeepNames device_names before after →
-    (c : Course) × ((keeps : ℕ → Bool) → HaveRun g opened after memory (with_keeps keeps c)
-    × AreStepsOf g (with_keeps keeps c) memory steps)
-counted_tasks_have_run g opened before after memory steps graph fits made counted names =
+    (c : Course) × ((keeps : ℕ → Bool) → HaveRun g areas opened after memory (with_keeps keeps c)
+    × AreStepsOf (command_with g areas) (with_keeps keeps c) memory steps)
+counted_tasks_have_run g areas opened before after memory steps graph fits made counted names =
     let run = counted.run in (
-      base g graph opened fits before after made memory run names,
+      base g areas graph opened fits before after made memory run names,
       λ keeps. (
-        have_run g graph opened fits before after made memory run names keeps,
+        have_run g areas graph opened fits before after made memory run names keeps,
         record {
           least = λ there. counted.least there no_machine
-              (meant_streams g graph opened fits before after made memory run names)
-              (streams_meant g graph opened fits before after made memory run names);
-          most = subst (λ pulls. steps ≤ 2 * messages_by g (with_keeps keeps
-              (base g graph opened fits before after made memory run names)) + pulls)
-              (pulls_are g graph opened fits before after made memory run names keeps)
-              (counted.most no_machine (meant_streams g graph opened fits before after made memory run names)
-              (streams_meant g graph opened fits before after made memory run names));
+              (meant_streams g areas graph opened fits before after made memory run names)
+              (streams_meant g areas graph opened fits before after made memory run names);
+          most = subst (λ pulls. steps ≤ 2 * messages_by (command_with g areas) (with_keeps keeps
+              (base g areas graph opened fits before after made memory run names)) + pulls)
+              (pulls_are g areas graph opened fits before after made memory run names keeps)
+              (counted.most no_machine (meant_streams g areas graph opened fits before after made memory run names)
+              (streams_meant g areas graph opened fits before after made memory run names));
         },
       ),
     )

@@ -20,7 +20,7 @@ use Rattle.osm_machine.specs.ReadingFiles.{FileStands, file_fed, file_format, fi
 use Rattle.osm_machine.specs.ReadingFormats.{limited_reading}
 use Rattle.osm_machine.specs.Sums.{given_as}
 use Rattle.osm_machine.specs.declared.kind.MachineKind.{MachineKind}
-use Rattle.osm_machine.specs.declared.kind.MachineKind.TheVariants.{Read, Make, Nothing, Write, Drops, Copies, Filters, UsesNodes, UsesWays, Sorts, Merges, Appends, Applies, Simplifies}
+use Rattle.osm_machine.specs.declared.kind.MachineKind.TheVariants.{Read, Make, Nothing, Write, Drops, Copies, Filters, UsesNodes, UsesWays, Sorts, Merges, Appends, Applies, Simplifies, Selects}
 use Rattle.osm_machine.specs.declared.reader.FileReader.{FileReader}
 use Rattle.osm_machine.specs.declared.reader.FileReader.TheVariants.{Opl, Pbf}
 use Rattle.osm_machine.proofs.ReadingFileLemmas.{file_fed_by}
@@ -79,3 +79,4 @@ read_out (Merges m) source x y given is s want = absurd (let no : None ≡ Some 
 read_out (Appends m) source x y given is s want = absurd (let no : None ≡ Some source = is in cc)
 read_out (Applies m) source x y given is s want = absurd (let no : None ≡ Some source = is in cc)
 read_out (Simplifies m) source x y given is s want = absurd (let no : None ≡ Some source = is in cc)
+read_out (Selects m) source x y given is s want = absurd (let no : None ≡ Some source = is in cc)

@@ -1,15 +1,13 @@
 -- What words ask for: a graph of tasks, or the fault with which they are refused.
 -- Here each step takes the whole answer of the step before; the code goes on only where nothing is refused.
-use Rattle.std.specs.Prelude.{ℕ, ◌≡◌, List, not, Option, Some, None, Result, Ok, Err}
-use Rattle.std.specs.List.{position}
+use Rattle.std.specs.Prelude.{ℕ, ◌≡◌, List, Result, Ok, Err}
 use Rattle.osm_circle.specs.Circles.{IsBareCircle}
 use Rattle.osm_circle.specs.declared.circle.Sense.{Sense}
 use Rattle.osm_graph.specs.Graphs.{GraphValue}
 use Rattle.osm_graph.specs.Joining.{connected}
 use Rattle.osm_graph.specs.declared.fault.GraphError.{GraphError}
-use Rattle.osm_machine.specs.TaskMeanings.{is_kind_built}
 use Rattle.osm_report.specs.declared.fault.Fault.{Fault}
-use Rattle.osm_report.specs.declared.fault.Fault.TheVariants.{Words, Task, Graph, Buffering, NotBuilt, Memory}
+use Rattle.osm_report.specs.declared.fault.Fault.TheVariants.{Words, Task, Graph, Buffering, Memory}
 use Rattle.osm_tasks.specs.Resolving.{resolved}
 use Rattle.osm_tasks.specs.Tasks.{TaskValue}
 use Rattle.osm_tasks.specs.declared.fault.TaskError.{TaskError}
@@ -41,21 +39,10 @@ graph_asked words = list_asked (split_words words)
 abbrev pub HasNoCircle : GraphValue → Type 0
 HasNoCircle graph = (circle : List Sense) → IsBareCircle graph.pipes circle → ⊥
 
--- the first task that isn't built, where there is one
-abbrev pub first_unbuilt : List TaskValue → Option ℕ
-first_unbuilt tasks = position (λ (task : TaskValue). not (is_kind_built task.kind)) tasks
-
--- a graph is run: no circle of it is bare, and each task is built
-pub record IsRunnable (graph : GraphValue) : Type 0 where
-  pub bare : HasNoCircle graph
-  pub built : first_unbuilt graph.tasks ≡ None
-
--- a fault with which words may be refused, by the graph that they ask for: the first refusal; a bare circle; the first
--- task that isn't built, where no circle is bare; or out of memory
+-- a fault with which words may be refused, by the graph that they ask for: the first refusal; a bare circle; or out of
+-- memory
 pub data IsRefusal (asked : Result GraphValue Fault) (fault : Fault) : Type 0 where
   WasRefused : asked ≡ Err fault → IsRefusal asked fault
   HasCircle : (graph : GraphValue) → (circle : List Sense) → asked ≡ Ok graph → IsBareCircle graph.pipes circle →
       fault ≡ Buffering circle → IsRefusal asked fault
-  IsUnbuilt : (graph : GraphValue) → (task : ℕ) → asked ≡ Ok graph → HasNoCircle graph →
-      first_unbuilt graph.tasks ≡ Some task → fault ≡ NotBuilt task → IsRefusal asked fault
   WasOutOfMemory : fault ≡ Memory → IsRefusal asked fault

@@ -13,5 +13,7 @@ pub mod OnHost
 pub mod Opened
 pub mod Outcome
 pub mod Plan
+pub mod Polygons
+pub mod Prepared
 pub mod Went
 pub mod WordsRun

@@ -2,7 +2,6 @@
 -- Here the files that were opened are one list and each device is told by its task; the code goes through the tasks
 -- twice.
 use Rattle.std.specs.Prelude.{ℕ, ◌≡◌, ◌<◌, ◌⊎◌, List, [], ◌∷◌, ◌++◌, length, map, take, get_or, Bool, true, false, ◌&&◌, nat_lt, Option, Some, None, ⊤, filter, flat_map}
-use Rattle.std.specs.List.{AllByRecursion}
 use Rattle.osm_host.specs.Contents.{Files, IsContent, IsEmptyWhereTold, set_file}
 use Rattle.osm_host.specs.Counts.{SameCounts, is_at}
 use Rattle.osm_host.specs.Moments.{Moment}
@@ -15,7 +14,7 @@ use Rattle.osm_machine.specs.Sinks.{SinkSeen}
 use Rattle.osm_report.specs.declared.fault.Fault.{Fault}
 use Rattle.osm_report.specs.declared.fault.Fault.TheVariants.{Device as DeviceFault, Memory}
 use Rattle.osm_report.specs.declared.fault.DeviceCall.TheVariants.{Open as OpenCall}
-use Rattle.osm_run.specs.Plan.{File, Plan, Polygon, Sink, Source, Use, is_sink, is_source, names_of, openings, uses}
+use Rattle.osm_run.specs.Plan.{File, Plan, Sink, Source, Use, is_sink, is_source, names_of, openings, uses}
 use Rattle.osm_run.specs.Command.{Command}
 use Rattle.osm_run.specs.Course.{Course}
 use Rattle.osm_run.specs.Headline.{RanItsTasks}

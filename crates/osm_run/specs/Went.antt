@@ -22,11 +22,12 @@ use Rattle.osm_report.specs.declared.fault.Fault.{Fault}
 use Rattle.osm_report.specs.declared.fault.Fault.TheVariants.{Input, TooLong, Device}
 use Rattle.osm_report.specs.declared.fault.DeviceCall.TheVariants.{Read as ReadCall, Write as WriteCall}
 use Rattle.osm_tasks.specs.Tasks.{TaskValue}
-use Rattle.osm_run.specs.Commands.{command_of_graph, kind_at, kind_files}
+use Rattle.osm_run.specs.Command.{Command}
+use Rattle.osm_run.specs.Commands.{Areas, command_with, kind_at, kind_files}
 use Rattle.osm_run.specs.Course.{Course, entries, first_fault, meaning_of, source_limit, task_faults}
 use Rattle.osm_run.specs.HowFar.{WasUsed}
 use Rattle.osm_run.specs.OnHost.{CountsBy}
-use Rattle.osm_run.specs.Plan.{File, Polygon, Sink, Source, is_polygon, numbered, openings, uses}
+use Rattle.osm_run.specs.Plan.{File, Sink, Source, is_polygon, numbered, openings, uses}
 use Rattle.osm_run.specs.declared.status.SourceEnd.{SourceEnd}
 
 -- a device of a task as contracts see it, where the task has one
@@ -59,11 +60,9 @@ device_of m = NoDevice
 abbrev pub devices_of : {S K : Type 0} → List (MachineKind S K) → List DeviceSeen
 devices_of ms = map device_of ms
 
--- the device that the files of a task are opened as: a source, a sink, or none where there is no file or it was read
--- before the tasks ran
+-- the device that the files of a task are opened as: a source, a sink, or none where there is no file
 abbrev pub IsDeviceFor : List File → DeviceSeen → Type 0
 IsDeviceFor [] NoDevice = ⊤
-IsDeviceFor (Polygon name ∷ []) NoDevice = ⊤
 IsDeviceFor (Source name ∷ []) (SeenSource source) = source.name ≡ name
 IsDeviceFor (Sink name ∷ []) (SeenSink sink) = sink.name ≡ name
 IsDeviceFor files other = ⊥
@@ -73,12 +72,13 @@ pub record AreDevicesFor (tasks : List TaskValue) (devices : List DeviceSeen) : 
   pub count : length devices ≡ length tasks
   pub each : (t : ℕ) → t < length tasks → IsDeviceFor (kind_files (kind_at tasks t)) (device_at devices t)
 
--- machines are those of tasks: new, each of the kind of its number's task and with that task's device
-pub record AreMachinesOf {S K : Type 0} (tasks : List TaskValue) (devices : List DeviceSeen)
+-- machines are those of tasks: new, each of the kind of its number's task, and with that task's area and device
+pub record AreMachinesOf {S K : Type 0} (tasks : List TaskValue) (areas : Areas) (devices : List DeviceSeen)
     (ms : List (MachineKind S K)) : Type 0 where
   pub count : length ms ≡ length tasks
   pub each : (t : ℕ) (d : MachineKind S K) → t < length tasks →
-      IsMachineOf (kind_at tasks t) (source_in (device_at devices t)) (sink_in (device_at devices t)) (get_or ms t d)
+      IsMachineOf (kind_at tasks t) (areas t) (source_in (device_at devices t)) (sink_in (device_at devices t))
+      (get_or ms t d)
 
 -- whether a call failed, once it is known of which keeps do
 abbrev pub failed_with : (ℕ → Bool) → (Op → ℕ → Bool) → Op → ℕ → Bool
@@ -150,33 +150,34 @@ machine_ends ms = flat_map machine_end (enumerate_from 0 ms)
 abbrev pub most_pulls_of : List SourceEnd → ℕ
 most_pulls_of ends = sum_by (λ (e : SourceEnd). e.given + 1) ends
 
--- how many messages pass the pipes of a graph by a course
-abbrev pub messages_by : GraphValue → Course → ℕ
-messages_by g c = (command_of_graph g).messages (λ t. take source_limit (c.given t)) c.clean
+-- how many messages pass the pipes of a command by a course
+abbrev pub messages_by : Command → Course → ℕ
+messages_by k c = k.messages (λ t. take source_limit (c.given t)) c.clean
 
 -- a run took this many steps: two for each message, unless memory ran out, and at most one for each pull besides
-pub record AreStepsOf (g : GraphValue) (c : Course) (memory : Bool) (steps : ℕ) : Type 0 where
-  pub least : memory ≡ false → 2 * messages_by g c ≤ steps
-  pub most : steps ≤ 2 * messages_by g c + most_pulls_of (entries (command_of_graph g).plan c)
+pub record AreStepsOf (k : Command) (c : Course) (memory : Bool) (steps : ℕ) : Type 0 where
+  pub least : memory ≡ false → 2 * messages_by k c ≤ steps
+  pub most : steps ≤ 2 * messages_by k c + most_pulls_of (entries k.plan c)
 
--- what the run of the machines of a graph tells of a course: no file failed to open, and no store; each device tells of
--- it; a machine that reads has counted its bytes, says whether their end came, and so has the course's entry; unless
--- memory ran out the faults begin as those by the verdicts do, and each source was read as far as a run reads it
-pub record HaveRun {S K : Type 0} (g : GraphValue) (opened : List DeviceSeen) (after : List (MachineKind S K))
-    (memory : Bool) (c : Course) : Type 0 where
+-- what the run of the machines of a graph with these areas tells of a course: no file failed to open, and no store;
+-- each device tells of it; a machine that reads has counted its bytes, says whether their end came, and so has the
+-- course's entry; unless memory ran out the faults begin as those by the verdicts do, and each source was read as far
+-- as a run reads it
+pub record HaveRun {S K : Type 0} (g : GraphValue) (areas : Areas) (opened : List DeviceSeen)
+    (after : List (MachineKind S K)) (memory : Bool) (c : Course) : Type 0 where
   pub count : length after ≡ length g.tasks
-  pub all_opened : c.opened ≡ openings (command_of_graph g).plan
+  pub all_opened : c.opened ≡ openings (command_with g areas).plan
   pub opens : (t : ℕ) → c.failed Open t ≡ false
   pub makes : (t : ℕ) → c.failed Make t ≡ false
   pub spilled : (t : ℕ) → c.spilled t ≡ false
-  pub told : (t : ℕ) → t < length g.tasks → DeviceTells c (meaning_of (command_of_graph g) c) memory t
+  pub told : (t : ℕ) → t < length g.tasks → DeviceTells c (meaning_of (command_with g areas) c) memory t
       (device_at opened t) (device_at (devices_of after) t)
   pub counted : (t : ℕ) (d : MachineKind S K) (source : SourceSeen) → t < length g.tasks →
       device_at opened t ≡ SeenSource source →
       (bytes_counted (get_or after t d) ≡ length (c.given t)) × (has_come (get_or after t d) ≡ c.clean t)
-  pub ends : machine_ends after ≡ entries (command_of_graph g).plan c
+  pub ends : machine_ends after ≡ entries (command_with g areas).plan c
   pub faults : memory ≡ false → (keeps : List Fault) → first_fault
-      (flat_map (task_faults (meaning_of (command_of_graph g) c) c) (numbered (command_of_graph g).plan) ++ keeps)
+      (flat_map (task_faults (meaning_of (command_with g areas) c) c) (numbered (command_with g areas).plan) ++ keeps)
       ≡ first_fault (machine_faults after ++ keeps)
   pub used : memory ≡ false → AllByRecursion
-      (λ u. is_polygon u ≡ false → WasUsed (command_of_graph g) c u) (uses (command_of_graph g).plan)
+      (λ u. is_polygon u ≡ false → WasUsed (command_with g areas) c u) (uses (command_with g areas).plan)

@@ -5,7 +5,7 @@ ghost use Rattle.osm_machine.specs.MachineDevices.{device_names};
 ghost use Rattle.osm_machine.specs.MachineKinds.{machines};
 ghost use Rattle.osm_machine.specs.declared.kind.MachineKind.{MachineKind};
 ghost use Rattle.osm_net.specs.Runs.{AreCountedRun, AreNewMachines, AreRun, KeepNames};
-ghost use Rattle.osm_run.specs.Commands.{AreTasksKept, command_of_graph};
+ghost use Rattle.osm_run.specs.Commands.{Areas, AreTasksKept, command_of_graph, command_with};
 ghost use Rattle.osm_run.specs.Course.{Course};
 ghost use Rattle.osm_run.specs.Lawful.{IsLawful};
 ghost use Rattle.osm_run.specs.Went.{AreDevicesFor, AreMachinesOf, AreStepsOf, DeviceSeen, HaveRun, with_keeps};
@@ -20,23 +20,24 @@ pub fn commands_are_lawful()
 {}
 
 /// The machines of a graph's tasks are what a network runs. A run of them has a course of the
-/// graph's command, whichever keeps fail after it: each device tells of it, each entry is that of
+/// graph's command with their areas, whichever keeps fail after it: each device tells of it, each entry is that of
 /// its machine, and unless memory ran out the first fault is that of the machines' verdicts. On one
 /// thread it takes two steps for each message, and no more besides than the readers' pulls.
 pub fn machines_run_their_command<S: Source, K: Sink>()
-    ensures tasks { (g : GraphValue) (devices : List DeviceSeen) (made : List (MachineKind S K))
-        → IsGraph g → AreTasksKept g.tasks → AreMachinesOf g.tasks devices made
+    ensures tasks { (g : GraphValue) (areas : Areas) (devices : List DeviceSeen)
+        (made : List (MachineKind S K)) → IsGraph g → AreTasksKept g.tasks
+        → AreMachinesOf g.tasks areas devices made
         → AreNewMachines machines g.pipes made }
-    ensures run { (g : GraphValue) (opened : List DeviceSeen)
+    ensures run { (g : GraphValue) (areas : Areas) (opened : List DeviceSeen)
         (before after : List (MachineKind S K)) (memory : Bool) → IsGraph g
-        → AreDevicesFor g.tasks opened → AreMachinesOf g.tasks opened before
+        → AreDevicesFor g.tasks opened → AreMachinesOf g.tasks areas opened before
         → AreRun machines g.pipes before after memory → KeepNames device_names before after
-        → (c : Course) × ((keeps : ℕ → Bool) → HaveRun g opened after memory (with_keeps keeps c)) }
-    ensures counted { (g : GraphValue) (opened : List DeviceSeen)
+        → (c : Course) × ((keeps : ℕ → Bool) → HaveRun g areas opened after memory (with_keeps keeps c)) }
+    ensures counted { (g : GraphValue) (areas : Areas) (opened : List DeviceSeen)
         (before after : List (MachineKind S K)) (memory : Bool) (steps : ℕ) → IsGraph g
-        → AreDevicesFor g.tasks opened → AreMachinesOf g.tasks opened before
+        → AreDevicesFor g.tasks opened → AreMachinesOf g.tasks areas opened before
         → AreCountedRun machines (λ m. is_some (device_names m).source) g.pipes before after memory
         steps → KeepNames device_names before after
-        → (c : Course) × ((keeps : ℕ → Bool) → HaveRun g opened after memory (with_keeps keeps c)
-        × AreStepsOf g (with_keeps keeps c) memory steps) }
+        → (c : Course) × ((keeps : ℕ → Bool) → HaveRun g areas opened after memory (with_keeps keeps c)
+        × AreStepsOf (command_with g areas) (with_keeps keeps c) memory steps) }
 {}

@@ -1,8 +1,9 @@
 //! The device of a task, where it has one, and the file that a task reads or writes.
 ghost use Rattle.std.specs.Prelude.{◌≡◌, ◌<◌, length, slice_index_or, slice_set};
 ghost use Rattle.std.specs.Option.{option_copied};
-ghost use Rattle.osm_run.specs.Commands.{kind_files};
+ghost use Rattle.osm_run.specs.Commands.{all_kind_files, kind_files};
 ghost use Rattle.osm_run.specs.Opened.{sink_name, source_name};
+ghost use Rattle.osm_run.specs.Polygons.{polygon_name};
 ghost use Rattle.osm_run.specs.declared.devices.Device.TheVariants.{Nothing};
 
 use osm_entity::Text;
@@ -38,6 +39,16 @@ pub fn sink_name(kind: &TaskKind) -> Option<&Text>
         | TaskKind::WriteOpl { file }
         | TaskKind::WriteOplChange { file }
         | TaskKind::WriteSummary { file } => Some(file),
+        _ => None,
+    }
+}
+
+/// The name of the polygon file that a task has its area from; `None` where it has none.
+pub fn polygon_name(kind: &TaskKind) -> Option<&Text>
+    ensures { option_copied result ≡ polygon_name (all_kind_files kind.now) }
+{
+    match kind {
+        TaskKind::BoundingPolygon { file, .. } => Some(file),
         _ => None,
     }
 }

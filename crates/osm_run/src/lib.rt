@@ -1,16 +1,20 @@
 //! Runs an Osmosis command line over a host, and answers its status.
 //!
-//! `run_alone` is the top call. Its contract is one relation between the words, the host before it,
-//! the host after it and the status: the outcome of a run.
+//! `run` and `run_alone` are the top calls: on a thread for each task, and on one thread. Their
+//! contract is one relation between the words, the host before it, the host after it and the status:
+//! the outcome of a run. That of `run_alone` counts its steps besides.
 #![tactic(auto)]
 
+mod areas;
 mod asking;
 mod closing;
 mod command_laws;
+mod concluding;
 mod devices;
 mod laws;
 mod machines;
 mod opening;
+mod preparing;
 mod running;
 mod status;
 mod words_laws;
@@ -20,6 +24,6 @@ pub use laws::{
     calm_runs_are_complete, calm_stops_are_complete, clean_runs, entries_come_with_files,
     faults_have_causes, memory_leaves_prefixes, others_stay, runs_are_no_refusals, writers_hold,
 };
-pub use running::run_alone;
+pub use running::{run, run_alone};
 pub use status::{Ends, SourceEnd, Status};
 pub use words_laws::{words_are_refused_rightly, words_run_their_command};

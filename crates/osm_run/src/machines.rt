@@ -1,21 +1,23 @@
 //! The machines of tasks: made of their devices, and taken apart after their run.
-ghost use Rattle.std.specs.Prelude.{◌≡◌, ◌≤◌, ◌<◌, ◌+◌, ◌++◌, ◌∷◌, [], true, ℕ, List, length, flat_map, IfOk};
+ghost use Rattle.std.specs.Prelude.{◌≡◌, ◌≤◌, ◌<◌, ◌+◌, ◌++◌, ◌∷◌, [], ℕ, List, None, length, flat_map, slice_set, ⊤, IfOk};
 ghost use Rattle.std.specs.List.{enumerate_from};
 ghost use Rattle.std.specs.Option.{option_to_list};
 ghost use Rattle.osm_graph.specs.Graphs.{most_joined_tasks};
 ghost use Rattle.osm_machine.specs.Devices.{source_seen};
 ghost use Rattle.osm_machine.specs.MachineKinds.{machines};
 ghost use Rattle.osm_machine.specs.Sinks.{sink_seen};
-ghost use Rattle.osm_machine.specs.TaskMeanings.{IsMachineOf, is_kind_built};
+ghost use Rattle.osm_machine.specs.TaskMeanings.{IsGivenWhere, IsMachineOf, reads_area};
 ghost use Rattle.osm_report.specs.declared.fault.Fault.{Fault};
-ghost use Rattle.osm_run.specs.Commands.{kind_files};
+ghost use Rattle.osm_area.specs.declared.area.Area.{Area};
+ghost use Rattle.osm_run.specs.Commands.{area_at, kind_files};
 ghost use Rattle.osm_run.specs.Course.{first_fault};
-ghost use Rattle.osm_run.specs.Leaving.{AreFresh, AreLeft, AreTasksBuilt, HasNothing, HasRoomFor, IsFresh};
+ghost use Rattle.osm_run.specs.Leaving.{AreAreasFor, AreFresh, AreLeft, HasNothing, HasRoomFor, IsFresh};
 ghost use Rattle.osm_run.specs.Opened.{device_seen, devices_seen};
 ghost use Rattle.osm_run.specs.Went.{AreDevicesFor, AreMachinesOf, IsDeviceFor, device_of, machine_end, sink_in, source_in, verdict_faults};
 
 use crate::devices::Device;
 use crate::status::{Ends, SourceEnd};
+use osm_area::Area;
 use osm_entity::{NoMemory, Verdict};
 use osm_host::{Sink, Source};
 use osm_machine::{Machine, Parts, make};
@@ -90,26 +92,28 @@ impl<S: Source + Drop, K: Sink + Drop> Left<S, K> {
     }
 }
 
-/// The machine of each task, with its device. `NoMemory` drops the devices.
+/// The machine of each task, with its area and its device. `NoMemory` drops them.
 pub fn make_machines<S: Source + Drop, K: Sink + Drop>(
     alloc: Global,
     tasks: &[Task],
+    mut areas: Vec<Option<Area>>,
     devices: Vec<Device<S, K>>,
 ) -> Result<Vec<Machine<S, K>>, NoMemory>
-    requires built { AreTasksBuilt tasks.now }
+    requires areas { AreAreasFor tasks.now areas.items }
     requires devices { AreDevicesFor tasks.now (devices_seen
         (source_seen S.name S.rest S.given S.faults) (sink_seen K.name K.taken K.faults)
         devices.items) }
     requires fresh { AreFresh (devices_seen (source_seen S.name S.rest S.given S.faults)
         (sink_seen K.name K.taken K.faults) devices.items) }
-    ensures { IfOk result (λ machines. AreMachinesOf tasks.now (devices_seen
+    ensures { IfOk result (λ machines. AreMachinesOf tasks.now (area_at areas.items) (devices_seen
         (source_seen S.name S.rest S.given S.faults) (sink_seen K.name K.taken K.faults)
         devices.items) machines.items) }
 {
     let mut machines = Vec::new(alloc);
     let mut at = 0;
     for device in devices {
-        let machine = make_machine(alloc, &tasks[at], device)?;
+        let area = take_area(&mut areas, at);
+        let machine = make_machine(alloc, &tasks[at], area, device)?;
         if machines.push(machine).is_err() {
             return Err(NoMemory);
         }
@@ -118,27 +122,37 @@ pub fn make_machines<S: Source + Drop, K: Sink + Drop>(
     Ok(machines)
 }
 
-// The machine of a task with this device.
+// Takes an area out, and leaves none in its place.
+fn take_area(areas: &mut Vec<Option<Area>>, at: usize) -> Option<Area>
+    requires { at < length areas.old.items }
+    ensures value { result ≡ area_at areas.old.items at }
+    ensures after { areas.new.items ≡ slice_set areas.old.items at None }
+{
+    areas[at].take()
+}
+
+// The machine of a task with this area and this device.
 fn make_machine<S: Source + Drop, K: Sink + Drop>(
     alloc: Global,
     task: &Task,
+    area: Option<Area>,
     device: Device<S, K>,
 ) -> Result<Machine<S, K>, NoMemory>
-    requires built { is_kind_built task.now.kind ≡ true }
+    requires area { IsGivenWhere (reads_area task.now.kind) area (λ _. ⊤) }
     requires device { IsDeviceFor (kind_files task.now.kind) (device_seen
         (source_seen S.name S.rest S.given S.faults) (sink_seen K.name K.taken K.faults) device) }
     requires fresh { IsFresh (device_seen (source_seen S.name S.rest S.given S.faults)
         (sink_seen K.name K.taken K.faults) device) }
-    ensures { IfOk result (IsMachineOf task.now.kind
+    ensures { IfOk result (IsMachineOf task.now.kind area
         (source_in (device_seen (source_seen S.name S.rest S.given S.faults)
         (sink_seen K.name K.taken K.faults) device))
         (sink_in (device_seen (source_seen S.name S.rest S.given S.faults)
         (sink_seen K.name K.taken K.faults) device))) }
 {
     match device {
-        Device::Nothing => make(alloc, task, None, None),
-        Device::Reads(source) => make(alloc, task, Some(source), None),
-        Device::Writes(sink) => make(alloc, task, None, Some(sink)),
+        Device::Nothing => make(alloc, task, area, None, None),
+        Device::Reads(source) => make(alloc, task, area, Some(source), None),
+        Device::Writes(sink) => make(alloc, task, area, None, Some(sink)),
     }
 }
 

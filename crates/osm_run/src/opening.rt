@@ -28,7 +28,7 @@ pub struct Opened<S, K> {
     pub ends: Ends,
 }
 
-/// Opens the files of all tasks, none of which has a polygon file: the sources in command order,
+/// Opens the files that all tasks have open while they run: the sources in command order,
 /// then the sinks, which makes their files empty. At `Err` the run has that status: the sources
 /// that were opened are closed, and the sinks are dropped without a keep.
 pub fn open_devices<H: Host>(
@@ -207,7 +207,7 @@ fn open_sinks<H: Host>(
 }
 
 // Opens the source of this task.
-fn open_source<H: Host>(task: u32, name: &Text, host: &mut H) -> Result<H::In, Fault>
+pub(crate) fn open_source<H: Host>(task: u32, name: &Text, host: &mut H) -> Result<H::In, Fault>
     ensures ok { IfOk result (λ source. SourceIsOpen name.now
         (moment H.files H.said H.mute H.count H.gave H.known host.old)
         (moment H.files H.said H.mute H.count H.gave H.known host.new)

@@ -68,7 +68,6 @@ fn code_of(fault: &Fault) -> u8
         Fault::Words(_) => 2,
         Fault::Task(_) => 2,
         Fault::Graph(_) => 2,
-        Fault::NotBuilt { task: _ } => 2,
         Fault::Buffering(_) => 3,
         Fault::Input {
             task: _,

@@ -1,15 +1,17 @@
-//! Runs on hosts in memory, one to a row: what `b` holds, what is said, and the entry of the reader.
+//! Runs on hosts in memory, on threads and on one, to a row: what `b` holds, what is said, and the entry of the reader.
 ghost use Rattle.std.specs.Prelude.{◌≡◌, ◌≢◌, ◌<◌};
 ghost use Rattle.std.specs.List.{AllPairs};
 
 use osm_entity::{Bytes, Sequence, Steps, Text};
 use osm_host::{FailAt, Fails, FileHeld, Files, Host, MemoryHost, Op};
-use osm_run::{SourceEnd, Status, run_alone};
+use osm_run::{SourceEnd, Status, run, run_alone};
 use osm_text::first_part;
 use std::alloc::Global;
 use std::marker::Brand;
 use std::process::Abort;
+use std::sync::Wait;
 use std::sync::ledger::{Blank, Ledger};
+use std::thread::Threads;
 
 /// The words of a copy from `a` to `b`.
 const COPY: [&[u8]; 4] = [b"--read-opl", b"file=a", b"--write-opl", b"file=b"];
@@ -265,8 +267,27 @@ fn run_counted<H: Host, L: Ledger>(
     run_alone(alloc, words, host, &mut steps)
 }
 
-fn run_on<H: Host>(alloc: Global, words: &[Text], host: &mut H) -> Status {
+fn run_on_one<H: Host>(alloc: Global, words: &[Text], host: &mut H) -> Status {
     run_counted::<H, Brand>(alloc, words, host, Blank::new(1))
+}
+
+/// Whether each task has a thread of its own, or all have this one.
+#[derive(Clone, Copy, Debug)]
+enum On {
+    Threads,
+    One,
+}
+
+fn run_on<R: AllocGlobal + Threads + Wait + Sync, H: Host>(
+    rt: &R,
+    on: On,
+    words: &[Text],
+    host: &mut H,
+) -> Status {
+    match on {
+        On::Threads => run(rt, rt.alloc(), words, host),
+        On::One => run_on_one(rt.alloc(), words, host),
+    }
 }
 
 /// Whether `b` of the host holds just these bytes.
@@ -303,19 +324,21 @@ fn is_said(said: &[u8], row: &Row, is_mute: bool) -> bool {
         == Some(row.says)
 }
 
-fn check<R: Abort + AllocGlobal>(rt: &R, row: &Row, piece: u32, is_mute: bool)
+fn check<R>(rt: &R, on: On, row: &Row, piece: u32, is_mute: bool)
+where
+    R: Abort + AllocGlobal + Threads + Wait + Sync,
     requires { 0 < piece }
 {
     let files = files_of(rt, row);
     let fails = fails_of(rt, row);
     let mut host = MemoryHost::new(rt.alloc(), files, piece, fails, is_mute).expect(rt, "a host");
     let words = texts_of(rt, &row.words);
-    let status = run_on(rt.alloc(), words.as_slice(), &mut host);
+    let status = run_on(rt, on, words.as_slice(), &mut host);
     let is_right = status.code as u64 == row.code
         && has_entry(&status, row)
         && is_said(host.said().as_slice(), row, is_mute)
         && is_held(&host, bytes_of(rt, row.holds).as_slice());
-    assert!(rt; is_right, "{:?}, in {piece}", row.shows);
+    assert!(rt; is_right, "{:?}, in {piece}, {on:?}", row.shows);
 }
 
 #[test]
@@ -326,8 +349,10 @@ fn runs_are_as_their_rows_say(rt: HostRuntime) {
         let row = row_of(first, cut(&mut rest, b'\n'));
         for piece in row.pieces {
             let piece = (*piece).max(1);
-            check(&rt, &row, piece, false);
-            check(&rt, &row, piece, true);
+            for on in [On::Threads, On::One] {
+                check(&rt, on, &row, piece, false);
+                check(&rt, on, &row, piece, true);
+            }
         }
     }
 }

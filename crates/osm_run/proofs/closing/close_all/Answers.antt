@@ -1,12 +1,11 @@
 -- The devices of a run are closed, sources before sinks.
-use Rattle.std.proofs.Common.{◌≡◌, ◌<◌, ℕ, List, [], length, refl, sym, ap, subst, ◌∙◌, arith}
+use Rattle.std.proofs.Common.{sym, subst, ◌∙◌, arith}
 use Rattle.osm_host.specs.Moments.{moment}
 use Rattle.osm_machine.specs.Devices.{source_seen}
 use Rattle.osm_machine.specs.Sinks.{sink_seen}
 use Rattle.osm_run.specs.Commands.{plan_of}
 use Rattle.osm_run.specs.Opened.{devices_seen}
-use Rattle.osm_run.specs.Closed.{WasKept, WereClosed, SinksWereKept, without_source}
-use Rattle.osm_run.specs.Went.{device_at}
+use Rattle.osm_run.specs.Closed.{WasKept, WereClosed, SinksWereKept}
 use Rattle.osm_run.proofs.ClosableLemmas.{all_plain, can_keep_all}
 use Rattle.osm_run.proofs.SeenLemmas.{length-plan_of, seen_count}
 use Rattle.osm_run.proofs.TellingLemmas.{devices_closed}

@@ -1,5 +1,5 @@
 -- A source more is closed, or a task has none.
-use Rattle.std.proofs.Common.{◌≡◌, ◌+◌, ℕ, List, [], ◌∷◌, length, set, refl, sym, ap, subst, ◌∙◌, arith}
+use Rattle.std.proofs.Common.{◌+◌, refl, sym, ap, subst, ◌∙◌, arith}
 use Rattle.std.specs.Option.{option_copied}
 use Rattle.std.proofs.lemmas.List.{length-map}
 use Rattle.osm_host.specs.Moments.{moment}
@@ -7,8 +7,7 @@ use Rattle.osm_machine.specs.Devices.{source_seen}
 use Rattle.osm_machine.specs.Sinks.{sink_seen}
 use Rattle.osm_run.specs.Commands.{plan_of}
 use Rattle.osm_run.specs.Opened.{device_seen, devices_seen}
-use Rattle.osm_run.specs.Went.{NoDevice}
-use Rattle.osm_run.specs.declared.devices.Device.TheVariants.{Nothing, Reads, Writes}
+use Rattle.osm_run.specs.declared.devices.Device.TheVariants.{Nothing}
 use Rattle.osm_run.proofs.ClosableLemmas.{can_close_source}
 use Rattle.osm_run.proofs.ClosedSourceLemmas.{SourcesSoFar, no_source_turn, source_turn, sources_before}
 use Rattle.osm_run.proofs.SeenLemmas.{length-plan_of, seen_at, seen_set, source_named}

@@ -1,14 +1,12 @@
 -- A sink more is kept, or a task has none.
-use Rattle.std.proofs.Common.{◌≡◌, ◌+◌, ℕ, List, [], ◌∷◌, length, set, refl, sym, ap, subst, ◌∙◌, arith}
+use Rattle.std.proofs.Common.{◌+◌, refl, sym, ap, subst, ◌∙◌, arith}
 use Rattle.std.specs.Option.{option_copied}
-use Rattle.std.proofs.lemmas.List.{length-map}
 use Rattle.osm_host.specs.Moments.{moment}
 use Rattle.osm_machine.specs.Devices.{source_seen}
 use Rattle.osm_machine.specs.Sinks.{sink_seen}
 use Rattle.osm_run.specs.Commands.{plan_of}
 use Rattle.osm_run.specs.Opened.{device_seen, devices_seen}
-use Rattle.osm_run.specs.Went.{NoDevice}
-use Rattle.osm_run.specs.declared.devices.Device.TheVariants.{Nothing, Reads, Writes}
+use Rattle.osm_run.specs.declared.devices.Device.TheVariants.{Nothing}
 use Rattle.osm_run.specs.Closed.{keep_answer}
 use Rattle.osm_run.proofs.ClosableLemmas.{can_keep_sink}
 use Rattle.osm_run.proofs.KeptSinkLemmas.{SinksSoFar, no_sink_turn, sink_turn, sinks_before}

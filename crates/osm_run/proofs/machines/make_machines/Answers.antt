@@ -1,18 +1,19 @@
 use Rattle.std.proofs.Common.{◌≡◌, ◌<◌, ◌+◌, ◌∷◌, [], ◌++◌, length, sym, ap, subst, ◌∙◌, append_assoc, append-nil, arith}
-use Rattle.std.specs.Prelude.{get_or, if◌then◌else◌, map}
+use Rattle.std.specs.Prelude.{get_or, if◌then◌else◌, map, None}
 use Rattle.std.specs.Vec.Iter.{into_iter_items}
+use Rattle.std.proofs.lemmas.List.{length-set}
 use Rattle.osm_machine.specs.Devices.{source_seen}
 use Rattle.osm_machine.specs.Sinks.{sink_seen}
 use Rattle.osm_machine.specs.TaskMeanings.{IsMachineOf}
-use Rattle.osm_run.specs.Commands.{kind_at}
+use Rattle.osm_run.specs.Commands.{area_at, kind_at}
 use Rattle.osm_run.specs.Opened.{device_seen}
 use Rattle.osm_run.specs.Went.{device_at, sink_in, source_in}
 use Rattle.osm_run.proofs.LeavingLemmas.{map_length, nothing_left}
-use Rattle.osm_run.proofs.TakingLemmas.{built_here, device_here, each_pushed, fresh_here, kind_here, length_more, within_tasks}
+use Rattle.osm_run.proofs.TakingLemmas.{area_beside, area_here, device_here, each_pushed, fresh_here, kind_here, length_more, within_tasks}
 use Rattle.osm_run.proofs.machines.make_machines.Goals as goal
 
-pub make_machine-requires-clause-built : goal.make_machine-requires-clause-built
-make_machine-requires-clause-built g c =
+pub take_area-area-requires : goal.take_area-area-requires
+take_area-area-requires g c =
     let at = c.loop-device in
     let x = c.in-Some.device in
     let steps : into_iter_items at.device-iterator ≡ x ∷ into_iter_items c.next.new.self = c.in-Some.ensures.steps.0 in
@@ -25,7 +26,25 @@ make_machine-requires-clause-built g c =
     (sink_seen g.K.Sink.name g.K.Sink.taken g.K.Sink.faults))
     c.args.devices.items at.yielded (into_iter_items c.next.new.self) x at.at whole at.invariant.place
     c.requires.devices in
-    built_here c.args.tasks.now at.at c.index-tasks-at.result known c.index-tasks-at.is c.requires.built
+    omega (arith, known, at.invariant.areas_count, c.requires.areas.count)
+
+pub make_machine-requires-clause-area : goal.make_machine-requires-clause-area
+make_machine-requires-clause-area g c =
+    let at = c.loop-device in
+    let x = c.in-Some.device in
+    let steps : into_iter_items at.device-iterator ≡ x ∷ into_iter_items c.next.new.self = c.in-Some.ensures.steps.0 in
+    let whole : at.yielded ++ (x ∷ into_iter_items c.next.new.self) ≡ c.args.devices.items =
+    ap (λ zs. at.yielded ++ zs) (sym steps) ∙ at.invariant.whole
+    ∙ c.into_iter-device-iterator.ensures.into_iter_gives.0 in
+    let known : at.at < length c.args.tasks.now =
+    within_tasks c.args.tasks.now
+    (device_seen (source_seen g.S.Source.name g.S.Source.rest g.S.Source.given g.S.Source.faults)
+    (sink_seen g.K.Sink.name g.K.Sink.taken g.K.Sink.faults))
+    c.args.devices.items at.yielded (into_iter_items c.next.new.self) x at.at whole at.invariant.place
+    c.requires.devices in
+    area_here c.args.tasks.now at.at c.index-tasks-at.result known c.index-tasks-at.is c.args.areas.items
+    at.areas.items c.take_area-area.result c.requires.areas (at.invariant.areas_left at.at (omega arith))
+    c.take_area-area.ensures.value
 
 pub make_machine-requires-clause-device : goal.make_machine-requires-clause-device
 make_machine-requires-clause-device g c =
@@ -81,23 +100,35 @@ loop-device-preserved g c =
           omega arith);
       count = ap length pushed ∙ length_more at.machines.items m ∙ ap (λ n. n + 1) at.invariant.count
           ∙ sym (length_more at.yielded x);
-      each = each_pushed (λ t dv mk. IsMachineOf (kind_at c.args.tasks.now t) (source_in dv) (sink_in dv) mk)
+      areas_count = ap length c.take_area-area.ensures.after ∙ length-set at.areas.items at.at None
+          ∙ at.invariant.areas_count;
+      areas_left = λ t behind. ap (λ zs. area_at zs t) c.take_area-area.ensures.after
+          ∙ area_beside at.areas.items at.at t (omega (arith, behind))
+          ∙ at.invariant.areas_left t (omega (arith, behind));
+      each = each_pushed (λ t dv mk. IsMachineOf (kind_at c.args.tasks.now t) (area_at c.args.areas.items t)
+          (source_in dv) (sink_in dv) mk)
           (device_seen (source_seen g.S.Source.name g.S.Source.rest g.S.Source.given g.S.Source.faults)
           (sink_seen g.K.Sink.name g.K.Sink.taken g.K.Sink.faults)) at.yielded x
           at.machines.items m c.push.new.self.items pushed at.invariant.count at.invariant.each
-          (subst (λ n. IsMachineOf (kind_at c.args.tasks.now n)
+          (subst (λ n. IsMachineOf (kind_at c.args.tasks.now n) (area_at c.args.areas.items n)
           (source_in (device_seen (source_seen g.S.Source.name g.S.Source.rest g.S.Source.given g.S.Source.faults)
           (sink_seen g.K.Sink.name g.K.Sink.taken g.K.Sink.faults) x))
           (sink_in (device_seen (source_seen g.S.Source.name g.S.Source.rest g.S.Source.given g.S.Source.faults)
           (sink_seen g.K.Sink.name g.K.Sink.taken g.K.Sink.faults) x)) m)
           at.invariant.place
-          (subst (λ k. IsMachineOf k
+          (subst (λ area. IsMachineOf (kind_at c.args.tasks.now at.at) area
+          (source_in (device_seen (source_seen g.S.Source.name g.S.Source.rest g.S.Source.given g.S.Source.faults)
+          (sink_seen g.K.Sink.name g.K.Sink.taken g.K.Sink.faults) x))
+          (sink_in (device_seen (source_seen g.S.Source.name g.S.Source.rest g.S.Source.given g.S.Source.faults)
+          (sink_seen g.K.Sink.name g.K.Sink.taken g.K.Sink.faults) x)) m)
+          (c.take_area-area.ensures.value ∙ at.invariant.areas_left at.at (omega arith))
+          (subst (λ k. IsMachineOf k c.take_area-area.result
           (source_in (device_seen (source_seen g.S.Source.name g.S.Source.rest g.S.Source.given g.S.Source.faults)
           (sink_seen g.K.Sink.name g.K.Sink.taken g.K.Sink.faults) x))
           (sink_in (device_seen (source_seen g.S.Source.name g.S.Source.rest g.S.Source.given g.S.Source.faults)
           (sink_seen g.K.Sink.name g.K.Sink.taken g.K.Sink.faults) x)) m)
           (sym (kind_here c.args.tasks.now at.at c.index-tasks-at.result known c.index-tasks-at.is))
-          c.in_ok-machine.ensures));
+          c.in_ok-machine.ensures)));
     }
 
 pub returns : goal.returns
@@ -115,7 +146,7 @@ returns g c =
     record {
       count = at.invariant.count ∙ as_long;
       each = λ t d known.
-          subst (λ ds. IsMachineOf (kind_at c.args.tasks.now t)
+          subst (λ ds. IsMachineOf (kind_at c.args.tasks.now t) (area_at c.args.areas.items t)
           (source_in (device_at (map
           (device_seen (source_seen g.S.Source.name g.S.Source.rest g.S.Source.given g.S.Source.faults)
           (sink_seen g.K.Sink.name g.K.Sink.taken g.K.Sink.faults)) ds) t))

@@ -1,5 +1,5 @@
 -- All files are opened, or the run ends at one that was not.
-use Rattle.std.proofs.Common.{◌≡◌, [], length, replicate, refl, sym, ap, subst, ◌∙◌, arith}
+use Rattle.std.proofs.Common.{[], length, sym, ap, subst, ◌∙◌}
 use Rattle.std.specs.List.{AllByRecursion}
 use Rattle.osm_host.specs.Moments.{moment}
 use Rattle.osm_machine.specs.Devices.{source_seen}
@@ -7,7 +7,7 @@ use Rattle.osm_machine.specs.Sinks.{sink_seen}
 use Rattle.osm_run.specs.Closed.{WasKept, WereClosed}
 use Rattle.osm_run.specs.Commands.{plan_of}
 use Rattle.osm_run.specs.Course.{entries}
-use Rattle.osm_run.specs.Opened.{ReadsOrWrites, StoppedAtSink, StoppedAtSource, WereOpened, course_at_rest, device_seen, devices_seen}
+use Rattle.osm_run.specs.Opened.{ReadsOrWrites, StoppedAtSink, StoppedAtSource, WereOpened, course_at_rest, devices_seen}
 use Rattle.osm_run.specs.Went.{device_at}
 use Rattle.osm_run.proofs.OpenedLemmas.{all_opened, none_opened}
 use Rattle.osm_run.proofs.GivenBackLemmas.{can_close_at_sink, can_close_at_source, closed_room}

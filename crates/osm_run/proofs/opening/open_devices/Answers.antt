@@ -1,5 +1,5 @@
 -- The files of all tasks are opened, where there is room for them.
-use Rattle.std.proofs.Common.{◌≡◌, sym, ap, subst, ◌∙◌}
+use Rattle.std.proofs.Common.{sym, ap, subst, ◌∙◌}
 use Rattle.std.specs.List.{AllByRecursion}
 use Rattle.osm_host.specs.Moments.{moment}
 use Rattle.osm_machine.specs.Devices.{source_seen}

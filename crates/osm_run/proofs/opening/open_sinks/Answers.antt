@@ -1,15 +1,12 @@
 -- The sink of one task more is opened, or a task has none.
-use Rattle.std.proofs.Common.{◌≡◌, ◌+◌, ℕ, List, [], ◌∷◌, length, set, refl, sym, ap, subst, ◌∙◌, arith}
+use Rattle.std.proofs.Common.{◌+◌, length, sym, ap, subst, ◌∙◌, arith}
 use Rattle.std.specs.Option.{option_copied}
-use Rattle.std.proofs.lemmas.List.{length-map}
 use Rattle.osm_host.specs.Moments.{moment}
 use Rattle.osm_machine.specs.Devices.{source_seen}
 use Rattle.osm_machine.specs.Sinks.{sink_seen}
 use Rattle.osm_run.specs.Commands.{plan_of}
 use Rattle.osm_run.specs.Opened.{device_seen, devices_seen}
-use Rattle.osm_run.specs.Went.{NoDevice}
-use Rattle.osm_run.specs.declared.devices.Device.TheVariants.{Nothing, Reads, Writes}
-use Rattle.osm_host.specs.Moments.{Moment}
+use Rattle.osm_run.specs.declared.devices.Device.TheVariants.{Writes}
 use Rattle.osm_run.specs.Opened.{WereOpened}
 use Rattle.osm_run.proofs.OpenedLemmas.{sink_opened, sink_skipped}
 use Rattle.osm_run.proofs.SeenLemmas.{length-plan_of, seen_set, sink_named}

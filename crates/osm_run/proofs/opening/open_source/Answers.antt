@@ -1,7 +1,6 @@
 -- What an opened source is, and what a refusal leaves.
-use Rattle.std.proofs.Common.{◌≡◌, ◌∷◌, [], refl}
-use Rattle.std.specs.Prelude.{Ok, Err}
-use Rattle.osm_host.specs.declared.outside.Op.TheVariants.{Open, Make}
+use Rattle.std.specs.Prelude.{Ok}
+use Rattle.osm_host.specs.declared.outside.Op.TheVariants.{Open}
 use Rattle.osm_run.proofs.CallLemmas.{counts_of_refusal, counts_stay, known_after_refusal}
 use Rattle.osm_run.proofs.KnownLemmas.{known_by_open}
 use Rattle.osm_run.proofs.opening.open_source.Goals as goal

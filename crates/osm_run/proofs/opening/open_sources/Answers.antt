@@ -1,14 +1,12 @@
 -- The source of one task more is opened, or a task has none.
-use Rattle.std.proofs.Common.{◌≡◌, ◌+◌, ℕ, List, [], ◌∷◌, length, set, refl, sym, ap, subst, ◌∙◌, arith}
+use Rattle.std.proofs.Common.{◌+◌, sym, ap, subst, ◌∙◌, arith}
 use Rattle.std.specs.Option.{option_copied}
-use Rattle.std.proofs.lemmas.List.{length-map}
 use Rattle.osm_host.specs.Moments.{moment}
 use Rattle.osm_machine.specs.Devices.{source_seen}
 use Rattle.osm_machine.specs.Sinks.{sink_seen}
 use Rattle.osm_run.specs.Commands.{plan_of}
 use Rattle.osm_run.specs.Opened.{device_seen, devices_seen}
-use Rattle.osm_run.specs.Went.{NoDevice}
-use Rattle.osm_run.specs.declared.devices.Device.TheVariants.{Nothing, Reads, Writes}
+use Rattle.osm_run.specs.declared.devices.Device.TheVariants.{Reads}
 use Rattle.osm_run.specs.Opened.{WereOpened}
 use Rattle.osm_run.proofs.OpenedLemmas.{source_opened, source_skipped}
 use Rattle.osm_run.proofs.SeenLemmas.{length-plan_of, seen_set, source_named}

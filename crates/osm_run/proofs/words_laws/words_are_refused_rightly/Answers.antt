@@ -1,4 +1,4 @@
-use Rattle.osm_run.proofs.RefusalLemmas.{refused_circle, refused_first, refused_same, refused_shown, refused_unbuilt}
+use Rattle.osm_run.proofs.RefusalLemmas.{refused_circle, refused_first, refused_same, refused_shown}
 use Rattle.osm_run.proofs.words_laws.words_are_refused_rightly.Goals as goal
 
 pub returns-clause-first : goal.returns-clause-first
@@ -9,9 +9,6 @@ returns-clause-circle c = refused_circle
 
 pub returns-clause-shown : goal.returns-clause-shown
 returns-clause-shown c = refused_shown
-
-pub returns-clause-unbuilt : goal.returns-clause-unbuilt
-returns-clause-unbuilt c = refused_unbuilt
 
 pub returns-clause-same : goal.returns-clause-same
 returns-clause-same c = refused_same
