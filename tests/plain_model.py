@@ -2,8 +2,9 @@
 compare the program with. A stream is a list of items and whether it ended whole; a fault is what is said of a task."""
 import re
 from collections import namedtuple
+from fractions import Fraction
 
-Item = namedtuple("Item", "line key version time tags nodes ways weight")
+Item = namedtuple("Item", "line key version time tags nodes ways relations weight")
 Stream = namedtuple("Stream", "items whole")
 KINDS = "nwr"
 
@@ -29,6 +30,7 @@ def item(line):
         tags=tags,
         nodes=refs + [int(name[1:]) for name, _ in members if name[0] == "n"],
         ways=[int(name[1:]) for name, _ in members if name[0] == "w"],
+        relations=[int(name[1:]) for name, _ in members if name[0] == "r"],
         weight=128 + 32 * (len(tags) + len(refs) + len(members)) + sum(map(len, texts)),
     )
 
@@ -159,3 +161,147 @@ def apply(streams):
         return [there[key] for key in sorted(there)]
 
     return joined(streams, lay)
+
+
+# Areas. A place is a longitude and a latitude in whole nanodegrees, and an area a function that says whether it holds a
+# place.
+
+
+def nano(degrees):
+    return int(Fraction(degrees) * 10**9)
+
+
+def place(node):
+    fields = {field[0]: field[1:] for field in node.line.split(" ")[1:]}
+    return nano(fields["x"]), nano(fields["y"])
+
+
+def box(left, right, bottom, top):
+    return lambda at: left <= at[0] <= right and bottom <= at[1] <= top
+
+
+def is_in_ring(ring, at):
+    """Whether an odd number of edges pass the latitude of the place further east."""
+    east, north = at
+    count = 0
+    for (x, y), (next_x, next_y) in zip(ring, ring[1:] + ring[:1]):
+        if (y <= north) != (next_y <= north):
+            count += x + Fraction((north - y) * (next_x - x), next_y - y) > east
+    return count % 2 == 1
+
+
+def polygon(sections):
+    """Sections are pairs of whether the ring adds, and the ring. The last one that holds the place decides."""
+    return lambda at: next((adds for adds, ring in reversed(sections) if is_in_ring(ring, at)), False)
+
+
+NUMBER = re.compile(rb"([+-]?)([0-9]*)\.?([0-9]*)(?:[eE]([+-]?[0-9]{1,4}))?")
+
+
+def degrees_of(text):
+    """The nanodegrees of a number of at most 1,000 degrees, or None."""
+    parts = NUMBER.fullmatch(text)
+    if parts is None or not 1 <= len(parts[2] + parts[3]) <= 38:
+        return None
+    size = int(Fraction(int(parts[2] + parts[3])) * Fraction(10) ** (int(parts[4] or 0) - len(parts[3]) + 9))
+    return None if size > 1000 * 10**9 else -size if parts[1] == b"-" else size
+
+
+def read_polygon(file):
+    """The sections of a polygon file, or the number of its first bad line."""
+    lines = [line.strip(b" \t\r") for line in file.split(b"\n")]
+    if not lines[-1]:
+        lines.pop()
+    sections, ring = [], None
+    for number, line in enumerate(lines[1:], 2):
+        if ring is None and line == b"END":
+            return sections
+        if ring is not None and line == b"END":
+            sections.append(ring)
+            ring = None
+        elif line and ring is None:
+            ring = line[:1] != b"!", []
+        elif line:
+            point = [degrees_of(part) for part in re.split(rb"[ \t]+", line)]
+            if len(point) != 2 or None in point:
+                return number
+            ring[1].append(tuple(point))
+    return len(lines) + 1
+
+
+def inside_of(items, holds):
+    """The ids of the nodes inside, and those of the ways that refer to one of them."""
+    nodes = {one.key[1] for one in items if one.key[0] == 0 and holds(place(one))}
+    return nodes, {one.key[1] for one in items if one.key[0] == 1 and nodes.intersection(one.nodes)}
+
+
+def is_touched(relation, nodes, ways):
+    return bool(nodes.intersection(relation.nodes) or ways.intersection(relation.ways))
+
+
+def leads_to_touched(start, relations, nodes, ways):
+    """Whether from the relations of this id, over members of members, a relation comes that is touched."""
+    seen, left = set(), [start]
+    while left:
+        number = left.pop()
+        for one in relations:
+            if number not in seen and one.key[1] == number:
+                if is_touched(one, nodes, ways):
+                    return True
+                left += one.relations
+        seen.add(number)
+    return False
+
+
+def plain_area(items, holds):
+    """The items kept where each is decided from what came up to it; each with the relations that were kept before."""
+    kept, relations = [], set()
+    for at, one in enumerate(items):
+        nodes, ways = inside_of(items[: at + 1], holds)
+        kind, number = one.key
+        before = set(relations)
+        if kind < 2:
+            is_kept = number in (nodes, ways)[kind]
+        else:
+            is_kept = is_touched(one, nodes, ways) or bool(before.intersection(one.relations))
+        if is_kept:
+            kept.append((one, before))
+            if kind == 2:
+                relations.add(number)
+    return kept
+
+
+def held_area(items, holds, complete):
+    """The items kept where all are known; each with the relations that are kept."""
+    nodes, ways = inside_of(items, holds)
+    all_relations = [one for one in items if one.key[0] == 2]
+    ids = {one.key[1] for one in all_relations}
+    relations = {number for number in ids if leads_to_touched(number, all_relations, nodes, ways)}
+    if complete:
+        nodes = nodes.union(*[one.nodes for one in items if one.key[0] == 1 and one.key[1] in ways])
+    return [(one, relations) for one in items if one.key[1] in (nodes, ways, relations)[one.key[0]]]
+
+
+def clipped(one, ids):
+    """The item with those refs and members alone whose ids are among these, by kind."""
+    *fields, last = one.line.split(" ")
+    if one.key[0] == 0 or len(last) == 1:
+        return one
+    parts = [part for part in last[1:].split(",") if int(part[1:].split("@")[0]) in ids[part[0]]]
+    return item(" ".join(fields + [last[0] + ",".join(parts)]))
+
+
+def area(stream, holds, complete=False, cascading=False, clip=False):
+    """What a task that cuts an area out gives, and its fault, or None."""
+    kinds = [one.key[0] for one in stream.items]
+    front = next((at for at in range(1, len(kinds)) if kinds[at] < kinds[at - 1]), len(kinds))
+    fault = f"input 0 item {front + 1}: out of order" if front < len(kinds) else None
+    items, whole = stream.items[:front], stream.whole and fault is None
+    if complete or cascading:
+        kept = held_area(items, holds, complete) if whole else []
+    else:
+        kept = plain_area(items, holds)
+    nodes, ways = [{one.key[1] for one, _ in kept if one.key[0] == kind} for kind in range(2)]
+    if clip:
+        kept = [(clipped(one, {"n": nodes, "w": ways, "r": relations}), relations) for one, relations in kept]
+    return Stream([one for one, _ in kept], whole), fault
