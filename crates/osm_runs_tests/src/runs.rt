@@ -14,7 +14,7 @@ use std::sync::ledger::{Blank, Ledger};
 use std::thread::Threads;
 
 /// The words of a copy from `a` to `b`.
-const COPY: [&[u8]; 4] = [b"--read-opl", b"file=a", b"--write-opl", b"file=b"];
+pub(crate) const COPY: [&[u8]; 4] = [b"--read-opl", b"file=a", b"--write-opl", b"file=b"];
 
 /// Words that ask for a copy of a file of changes.
 const OTHER: [&[u8]; 4] = [
@@ -24,11 +24,76 @@ const OTHER: [&[u8]; 4] = [
     b"file=b",
 ];
 
+/// Words that cut a box out, with the option of their name.
+const BOX: [&[u8]; 9] = [
+    b"--read-opl",
+    b"a",
+    b"--bounding-box",
+    b"left=0",
+    b"right=1",
+    b"bottom=0",
+    b"top=1",
+    b"--write-opl",
+    b"b",
+];
+
+const CASCADING: [&[u8]; 10] = [
+    b"--read-opl",
+    b"a",
+    b"--bounding-box",
+    b"left=0",
+    b"right=1",
+    b"bottom=0",
+    b"top=1",
+    b"cascadingRelations=yes",
+    b"--write-opl",
+    b"b",
+];
+
+const COMPLETE: [&[u8]; 10] = [
+    b"--read-opl",
+    b"a",
+    b"--bounding-box",
+    b"left=0",
+    b"right=1",
+    b"bottom=0",
+    b"top=1",
+    b"completeWays=yes",
+    b"--write-opl",
+    b"b",
+];
+
+const CLIPPED: [&[u8]; 10] = [
+    b"--read-opl",
+    b"a",
+    b"--bounding-box",
+    b"left=0",
+    b"right=1",
+    b"bottom=0",
+    b"top=1",
+    b"clipIncompleteEntities=yes",
+    b"--write-opl",
+    b"b",
+];
+
+/// Words that cut the area of the polygon file `c` out.
+const POLYGON: [&[u8]; 6] = [
+    b"--read-opl",
+    b"a",
+    b"--bounding-polygon",
+    b"c",
+    b"--write-opl",
+    b"b",
+];
+
+/// What `c` holds: a polygon file whose third line is bad. A `/` is a newline.
+const BAD_POLYGON: &[u8] = b"x/1/0 zero/";
+
 /// What `b` holds before each run.
 const BEFORE: &[u8] = b"as before";
 
 /// How many rows there are.
-const COUNT: u32 = 28;
+const COUNT: u32 = 36;
 
 /// A row for each run, of two lines. The columns of the first: what it shows; its words; the pieces of its pulls; the
 /// call that fails, by its file, its kind and its number, at 0 none; and the file `a`, how often a part of it stands
@@ -91,13 +156,29 @@ spaces stand at both ends|copy|both|||0|1| w5  Nn1,n2 |
 0|12|ended||w5 v0 dV c0 t i0 u T Nn1,n2/|
 a change is copied|other|both|||0|1|n1 v2 dD/|
 0|9|ended||n1 v2 dD c0 t i0 u T x y/|
+a box is cut out|box|both|||0|1|n1 x0.5 y0.5/n2 x2 y2/n3 x3 y3/w1 Nn1,n2/w2 Nn2,n3/r1 Mr2@/r2 Mw1@/|
+0|67|ended||n1 v0 dV c0 t i0 u T x0.5 y0.5/w1 v0 dV c0 t i0 u T Nn1,n2/r2 v0 dV c0 t i0 u T Mw1@/|
+relations of relations come along|cascading|both|||0|1|n1 x0.5 y0.5/n2 x2 y2/n3 x3 y3/w1 Nn1,n2/w2 Nn2,n3/r1 Mr2@/r2 Mw1@/|
+0|67|ended||n1 v0 dV c0 t i0 u T x0.5 y0.5/w1 v0 dV c0 t i0 u T Nn1,n2/r1 v0 dV c0 t i0 u T Mr2@/r2 v0 dV c0 t i0 u T Mw1@/|
+ways are completed|complete|both|||0|1|n1 x0.5 y0.5/n2 x2 y2/n3 x3 y3/w1 Nn1,n2/w2 Nn2,n3/r1 Mr2@/r2 Mw1@/|
+0|67|ended||n1 v0 dV c0 t i0 u T x0.5 y0.5/n2 v0 dV c0 t i0 u T x2 y2/w1 v0 dV c0 t i0 u T Nn1,n2/r1 v0 dV c0 t i0 u T Mr2@/r2 v0 dV c0 t i0 u T Mw1@/|
+ways are clipped|clipped|both|||0|1|n1 x0.5 y0.5/n2 x2 y2/n3 x3 y3/w1 Nn1,n2/w2 Nn2,n3/r1 Mr2@/r2 Mw1@/|
+0|67|ended||n1 v0 dV c0 t i0 u T x0.5 y0.5/w1 v0 dV c0 t i0 u T Nn1/r2 v0 dV c0 t i0 u T Mw1@/|
+a box holds its edges|box|both|||0|1|n1 x1 y1/|
+0|9|ended||n1 v0 dV c0 t i0 u T x1 y1/|
+a node behind a way is out of order|box|both|||0|1|n1 x0 y0/w1 Nn1/n2 x0 y0/|
+4|25|ended|task 1 input 0 item 3: out of order|n1 v0 dV c0 t i0 u T x0 y0/w1 v0 dV c0 t i0 u T Nn1/|
+nothing of a held input out of order is given|complete|both|||0|1|n1 x0 y0/w1 Nn1/n2 x0 y0/|
+4|25|ended|task 1 input 0 item 3: out of order||
+a polygon file is bad|polygon|both|||0|1|n1 x0.5 y0.5/n2 x2 y2/n3 x3 y3/w1 Nn1,n2/w2 Nn2,n3/r1 Mr2@/r2 Mw1@/|
+4|none||task 1 line 3: bad polygon|as before|
 ";
 
 /// A row by its columns.
 #[derive(Drop)]
 struct Row<'a> {
     shows: &'a [u8],
-    words: [&'static [u8]; 4],
+    words: &'static [&'static [u8]],
     pieces: &'static [u32],
     file: &'a [u8],
     fails: Op,
@@ -136,11 +217,21 @@ fn number(digits: &[u8]) -> u64 {
     number
 }
 
-fn words_of(name: &[u8]) -> [&'static [u8]; 4] {
+fn words_of(name: &[u8]) -> &'static [&'static [u8]] {
     if name == b"other".as_slice() {
-        OTHER
+        &OTHER
+    } else if name == b"box".as_slice() {
+        &BOX
+    } else if name == b"cascading".as_slice() {
+        &CASCADING
+    } else if name == b"complete".as_slice() {
+        &COMPLETE
+    } else if name == b"clipped".as_slice() {
+        &CLIPPED
+    } else if name == b"polygon".as_slice() {
+        &POLYGON
     } else {
-        COPY
+        &COPY
     }
 }
 
@@ -208,7 +299,7 @@ fn text<R: Abort + AllocGlobal>(rt: &R, bytes: &[u8]) -> Text
     Text::from_bytes(rt.alloc(), bytes).expect(rt, "a text")
 }
 
-fn texts_of<R: Abort + AllocGlobal>(rt: &R, words: &[&[u8]]) -> Sequence<Text> {
+pub(crate) fn texts_of<R: Abort + AllocGlobal>(rt: &R, words: &[&[u8]]) -> Sequence<Text> {
     let mut texts = Sequence::new(rt.alloc());
     for word in words {
         texts.push(text(rt, word)).expect(rt, "a word");
@@ -228,13 +319,16 @@ fn file_of<R: Abort + AllocGlobal>(rt: &R, name: &[u8], part: &[u8], times: u64)
     FileHeld { name, bytes }
 }
 
-/// The files `a`, where it is there, and `b` with what it holds before.
+/// The files `a`, where it is there, `b` with what it holds before, and `c`.
 fn files_of<R: Abort + AllocGlobal>(rt: &R, row: &Row) -> Files
     ensures { AllPairs (λ f g. f.name ≢ g.name) result }
 {
     let mut files = Files::new(rt.alloc());
     files
         .push(file_of(rt, b"b", BEFORE, 1))
+        .expect(rt, "a file");
+    files
+        .push(file_of(rt, b"c", BAD_POLYGON, 1))
         .expect(rt, "a file");
     if row.times > 0 {
         files
@@ -273,12 +367,12 @@ fn run_on_one<H: Host>(alloc: Global, words: &[Text], host: &mut H) -> Status {
 
 /// Whether each task has a thread of its own, or all have this one.
 #[derive(Clone, Copy, Debug)]
-enum On {
+pub(crate) enum On {
     Threads,
     One,
 }
 
-fn run_on<R: AllocGlobal + Threads + Wait + Sync, H: Host>(
+pub(crate) fn run_on<R: AllocGlobal + Threads + Wait + Sync, H: Host>(
     rt: &R,
     on: On,
     words: &[Text],
@@ -332,7 +426,7 @@ where
     let files = files_of(rt, row);
     let fails = fails_of(rt, row);
     let mut host = MemoryHost::new(rt.alloc(), files, piece, fails, is_mute).expect(rt, "a host");
-    let words = texts_of(rt, &row.words);
+    let words = texts_of(rt, row.words);
     let status = run_on(rt, on, words.as_slice(), &mut host);
     let is_right = status.code as u64 == row.code
         && has_entry(&status, row)
