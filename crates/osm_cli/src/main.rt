@@ -32,7 +32,10 @@ fn main(rt: HostRuntime) -> ExitCode {
             let _ = rt.eprintln("osm-tasks: a word is not UTF-8");
             ExitCode::from(2)
         }
-        Err(TextError::Memory) => ExitCode::from(6),
+        Err(TextError::Memory) => {
+            let _ = rt.eprintln("osm-tasks: no memory");
+            ExitCode::from(6)
+        }
     }
 }
 
