@@ -6,11 +6,14 @@ use Rattle.std.specs.Str.{is_utf8}
 use Rattle.std.proofs.lemmas.Bool.{lt-ltb, le-ltb, ne_eqb}
 use Rattle.osm_entity.specs.declared.kind.Flow.{Flow}
 use Rattle.osm_entity.specs.declared.kind.Kind.{Kind}
+use Rattle.osm_entity.specs.declared.verdict.Cause.{Cause}
 use Rattle.osm_entity.specs.declared.verdict.Cause.TheVariants.{BadText, BadField, LineTooLong}
 use Rattle.osm_text.specs.Numbers.{whole}
+use Rattle.osm_opl_line.specs.Bytes.{byte_fault}
 use Rattle.osm_opl_line.specs.Contents.{kind_by}
 use Rattle.osm_opl_line.specs.Fields.{Fields, fields_from, fields_of, fault_among, pieces}
 use Rattle.osm_opl_line.specs.Line.{Skipped, Bad, is_control, judged, longest_line, opl_line, said_of}
+use Rattle.osm_opl_line.proofs.BytesLemmas.{said-fault, said-free}
 
 -- a line that is too long is bad
 pub opl_line-long : (flow : Flow) (line : List ℕ) → longest_line < length line →
@@ -42,26 +45,19 @@ opl_line-pieces flow line {first} {more} short plain some =
     let several : (length (first ∷ more) == 0) ≡ false = ne_eqb (length (first ∷ more)) 0 (λ e. absurd (omega arith)) in
     rw (le-ltb longest_line (length line) short, plain, some, several) refl
 
--- a line with a piece that isn't UTF-8 is bad
-pub opl_line-not_utf8 : (flow : Flow) (line : List ℕ) {first : List ℕ} {more : List (List ℕ)} →
+-- a line with a piece and a fault among its bytes is bad
+pub opl_line-fault : (flow : Flow) (line : List ℕ) (cause : Cause) {first : List ℕ} {more : List (List ℕ)} →
     length line ≤ longest_line → (slice_index line 0 == 35) ≡ false → pieces line ≡ first ∷ more →
-    is_utf8 line ≡ false → opl_line flow line ≡ Bad BadText
-opl_line-not_utf8 flow line short plain some bad =
-    opl_line-pieces flow line short plain some ∙ rw bad refl
-
--- a line of text with a control byte is bad
-pub opl_line-control : (flow : Flow) (line : List ℕ) {first : List ℕ} {more : List (List ℕ)} →
-    length line ≤ longest_line → (slice_index line 0 == 35) ≡ false → pieces line ≡ first ∷ more → is_utf8 line ≡ true →
-    list_any is_control line ≡ true → opl_line flow line ≡ Bad BadField
-opl_line-control flow line short plain some text control =
-    opl_line-pieces flow line short plain some ∙ rw (text, control) refl
+    Some cause ≡ byte_fault line → opl_line flow line ≡ Bad cause
+opl_line-fault flow line cause {first} {more} short plain some fault =
+    opl_line-pieces flow line short plain some ∙ said-fault line (said_of flow (first ∷ more)) cause fault
 
 -- any other line says what its pieces say
 pub opl_line-said : (flow : Flow) (line : List ℕ) {first : List ℕ} {more : List (List ℕ)} → length line ≤ longest_line →
-    (slice_index line 0 == 35) ≡ false → pieces line ≡ first ∷ more → is_utf8 line ≡ true →
-    list_any is_control line ≡ false → opl_line flow line ≡ said_of flow (first ∷ more)
-opl_line-said flow line short plain some text free =
-    opl_line-pieces flow line short plain some ∙ rw (text, free) refl
+    (slice_index line 0 == 35) ≡ false → pieces line ≡ first ∷ more → None ≡ byte_fault line →
+    opl_line flow line ≡ said_of flow (first ∷ more)
+opl_line-said flow line {first} {more} short plain some free =
+    opl_line-pieces flow line short plain some ∙ (said-free line (said_of flow (first ∷ more)) free).1
 
 -- pieces without a fault are judged by their fields
 pub said_of-drafted : (flow : Flow) (kind : Kind) (letter : ℕ) (id : List ℕ) (n : ℤ) (parts : List (List ℕ))

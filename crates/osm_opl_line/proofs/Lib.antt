@@ -1,3 +1,4 @@
+pub mod BytesLemmas
 pub mod ContentsBackLemmas
 pub mod CuttingLemmas
 pub mod DraftLemmas

@@ -2,7 +2,7 @@
 -- Here a slot is looked up by its letter; the code has a field for each.
 use Rattle.std.specs.Prelude.{ℕ, ℤ, ◌≡◌, ◌≤◌, ◌*◌, ◌==◌, List, [], false, if◌then◌else◌, Option, Some, None, Result, Ok, Err, is_some, length, not, sum_by}
 use Rattle.std.specs.Borrow.{Bor}
-use Rattle.std.specs.Option.{option_map, option_or}
+use Rattle.std.specs.Option.{option_map}
 use Rattle.osm_entity.specs.Ascii.{letter_c, letter_d, letter_i, letter_t, letter_u, letter_v, letter_x, letter_y, capital_m, capital_n, capital_t}
 use Rattle.osm_entity.specs.Entities.{tag_weight, member_weight}
 use Rattle.osm_entity.specs.declared.kind.Flow.{Flow}
@@ -12,7 +12,7 @@ use Rattle.osm_entity.specs.declared.verdict.Cause.{Cause}
 use Rattle.osm_entity.specs.declared.verdict.Cause.TheVariants.{BadField, TwiceField}
 use Rattle.osm_opl_line.specs.Contents.{count_in, changeset_in, deleted_in, time_in, text_in, degrees_in, tags_in, refs_in, members_in}
 use Rattle.osm_opl_line.specs.Cut.{IsFine}
-use Rattle.osm_opl_line.specs.Fields.{Fields, field, fault_among, content_fault, is_one_of, is_letter_of}
+use Rattle.osm_opl_line.specs.Fields.{Fields, content_fault, is_letter_of}
 use Rattle.osm_opl_line.specs.Item.{value_of, item_of}
 use Rattle.osm_opl_line.specs.Line.{LineValue, Skipped, Good, Bad, longest_line}
 use Rattle.osm_opl_line.specs.declared.draft.Draft.{Draft}

@@ -1,11 +1,12 @@
 //! Cuts a line into its fields. Nothing is copied: each field is a slice of the line.
-ghost use Rattle.std.specs.Prelude.{◌≡◌, ◌≤◌, ◌<◌, ◌↔◌, ◌∷◌, ◌==◌, [], ℤ, None, Some, Ok, Err, IfOk, IfErr, IfSome, IsUtf8, length, slice_index};
+ghost use Rattle.std.specs.Prelude.{◌≡◌, ◌≤◌, ◌<◌, ◌↔◌, ◌∷◌, ◌==◌, ◌+◌, [], ℤ, None, Some, Ok, Err, IfOk, IfErr, IfSome, IsTrue, IsUtf8, length, slice_index};
 ghost use Rattle.std.specs.List.{list_any};
 ghost use Rattle.std.specs.Result.{result_err};
 ghost use Rattle.std.specs.Str.{is_utf8};
 ghost use Rattle.osm_entity.specs.Ascii.{number_sign};
 ghost use Rattle.osm_entity.specs.declared.kind.Flow.{Flow};
 ghost use Rattle.osm_entity.specs.declared.verdict.Cause.{Cause};
+ghost use Rattle.osm_opl_line.specs.Bytes.{ArePlain, byte_fault};
 ghost use Rattle.osm_opl_line.specs.Draft.{IsRead, answer_of, fields_drafted};
 ghost use Rattle.osm_opl_line.specs.Fields.{fields_from, fields_of, fault_among, pieces};
 ghost use Rattle.osm_opl_line.specs.Item.{item_of};
@@ -18,10 +19,14 @@ use crate::parting::kind_of;
 use crate::pieces::next_piece;
 use osm_entity::{Cause, Flow, Kind};
 use osm_text::read_whole;
+use std::simd::prelude::*;
 use std::str::from_utf8;
 
 /// The most bytes of a line.
 const LONGEST_LINE: usize = 16_777_216;
+
+/// How many bytes of a line are looked at at once.
+const LANES: usize = 16;
 
 /// Cuts a line of an OPL file of this flow into its fields, which are slices of the line.
 /// `None` exactly where the line is skipped: it is empty, holds only spaces and tabs, or begins
@@ -49,11 +54,8 @@ fn cut(line: &[u8], flow: Flow) -> Result<Option<Line<'_>>, Cause>
     let Some((letter, id, rest)) = next_piece(line) else {
         return Ok(None);
     };
-    if !is_text(line) {
-        return Err(Cause::BadText);
-    }
-    if has_control(line) {
-        return Err(Cause::BadField);
+    if let Some(cause) = byte_fault(line) {
+        return Err(cause);
     }
     match cut_pieces(flow, letter, id, rest) {
         Ok(line) => Ok(Some(line)),
@@ -66,6 +68,51 @@ fn begins_with_hash(line: &[u8]) -> bool
     ensures { result ≡ (slice_index line.now 0 == number_sign) }
 {
     matches!(line, [b'#', ..])
+}
+
+// What is wrong with the bytes of a line. Most lines are ASCII without a control byte but tabs, and
+// need no further look.
+fn byte_fault(line: &[u8]) -> Option<Cause>
+    ensures { result ≡ byte_fault line.now }
+{
+    if is_plain(line) {
+        return None;
+    }
+    if !is_text(line) {
+        return Some(Cause::BadText);
+    }
+    if has_control(line) {
+        return Some(Cause::BadField);
+    }
+    None
+}
+
+// Whether all bytes are ASCII and none is a control byte but a tab. The last look may overlap the one
+// before. A line of fewer than sixteen bytes is left to be looked at in full.
+fn is_plain(line: &[u8]) -> bool
+    ensures { IsTrue result → ArePlain line.now 0 (length line.now) }
+{
+    if line.len() < LANES {
+        return false;
+    }
+    let mut at = 0;
+    while line.len() - at > LANES {
+        if !is_plain_at(line, at) {
+            return false;
+        }
+        at += LANES;
+    }
+    is_plain_at(line, line.len() - LANES)
+}
+
+// The same of the sixteen bytes from `at` on.
+fn is_plain_at(line: &[u8], at: usize) -> bool
+    requires { at + 16 ≤ length line.now }
+    ensures { IsTrue result → ArePlain line.now at (at + 16) }
+{
+    let lanes = u8x16::from_slice(&line[at..]);
+    let is_low = lanes.simd_lt(u8x16::splat(b' ')) & lanes.simd_ne(u8x16::splat(b'\t'));
+    (is_low | lanes.simd_ge(u8x16::splat(128))).to_bitmask() == 0
 }
 
 // Whether the line is UTF-8.

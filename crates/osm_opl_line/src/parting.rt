@@ -8,6 +8,7 @@ ghost use Rattle.osm_opl_line.specs.Contents.{is_at_sign, is_equals, kind_by, me
 ghost use Rattle.osm_opl_line.specs.Writing.{kind_letter};
 
 use osm_entity::Kind;
+use osm_text::position_of;
 
 /// The kind of a letter: `n`, `w` or `r`.
 pub(crate) fn kind_of(letter: u8) -> Option<Kind>
@@ -35,13 +36,13 @@ pub(crate) fn letter_of(kind: Kind) -> u8
 fn find_equals(part: &[u8]) -> Option<usize>
     ensures { result ≡ position is_equals part.now }
 {
-    part.iter().position(|byte| *byte == b'=')
+    position_of(part, b'=')
 }
 
 fn find_at_sign(part: &[u8]) -> Option<usize>
     ensures { result ≡ position is_at_sign part.now }
 {
-    part.iter().position(|byte| *byte == b'@')
+    position_of(part, b'@')
 }
 
 /// The escaped key and value of a tag; `None` where it has no `=`, or no key before it.

@@ -3,14 +3,11 @@ ghost use Rattle.std.specs.Prelude.{◌≡◌, ◌≤◌, ◌<◌, ◌+◌, ◌�
 ghost use Rattle.std.specs.List.{position};
 ghost use Rattle.osm_opl_line.specs.Fields.{is_blank, pieces};
 
-use memchr::memchr2;
-
-/// How many bytes are looked at one by one. Most fields end within them, and the search that takes
-/// many bytes at a time takes as long as that for its first.
-const NEAR: usize = 16;
+use osm_text::position_of_either;
 
 /// The letter that begins the first piece, its content, and the bytes after it; `None` where there
 /// is no piece.
+#[inline(always)]
 pub(crate) fn next_piece(bytes: &[u8]) -> Option<(u8, &[u8], &[u8])>
     ensures none { IfNone result (pieces bytes.now ≡ []) }
     ensures some { IfSome result (λ p. pieces bytes.now ≡ (p.0 ∷ p.1.now) ∷ pieces p.2.now) }
@@ -58,21 +55,7 @@ fn cut_at_blank(bytes: &[u8]) -> (&[u8], &[u8])
 fn position_of_blank(bytes: &[u8]) -> Option<usize>
     ensures { result ≡ position is_blank bytes.now }
 {
-    let near = bytes.len().min(NEAR);
-    match position_one_by_one(&bytes[..near]) {
-        Some(at) => Some(at),
-        None => match memchr2(b' ', b'\t', &bytes[near..]) {
-            Some(at) => Some(near + at),
-            None => None,
-        },
-    }
-}
-
-// The same, where each byte is looked at alone.
-fn position_one_by_one(bytes: &[u8]) -> Option<usize>
-    ensures { result ≡ position is_blank bytes.now }
-{
-    bytes.iter().position(|byte| is_space(*byte))
+    position_of_either(bytes, b' ', b'\t')
 }
 
 // A space or a tab.

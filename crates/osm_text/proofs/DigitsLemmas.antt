@@ -7,6 +7,7 @@ use Rattle.std.specs.Str.Parse.{digits_value}
 use Rattle.std.proofs.lemmas.Bool.{and_from, and_parts, le-leb}
 use Rattle.std.proofs.lemmas.Bool.Decides.{nat_tests}
 use Rattle.std.proofs.lemmas.Int.Digits.{digits_value_more}
+use Rattle.std.proofs.lemmas.List.{length-take}
 use Rattle.std.proofs.lemmas.List.Folds.{list_all_more}
 use Rattle.std.proofs.lemmas.Str.Parse.{IsNumeralModel, IsDigitsTest, numerals_by_value, digits_value_short}
 use Rattle.osm_text.specs.Numbers.{are_digits}
@@ -67,3 +68,21 @@ digits-size most bytes None within is = tt
 digits-size most bytes (Some n) within is =
     let kept = kept_some (are_digits most bytes) (digits_value 10 bytes) n is in
     rw kept.0 (digits_value_short digits_model bytes most (list_all-are_digits most bytes kept.1) within)
+
+-- one digit more keeps few digits, and is added at the end of their number
+pub few-more : (bytes : List ℕ) (i digit size : ℕ) → i < length bytes →
+    Some digit ≡ (if is_digit (get_or bytes i 0) 10 then Some (digit_value (get_or bytes i 0)) else None) →
+    list_all (λ c. is_digit c 10) (take i bytes) ≡ true → size ≡ digits_value 10 (take i bytes) → size < 10 ^ i →
+    (size * 10 + digit ≡ digits_value 10 (take (i + 1) bytes)) ×
+    (list_all (λ c. is_digit c 10) (take (i + 1) bytes) ≡ true) × (size * 10 + digit < 10 ^ (i + 1))
+few-more bytes i digit size within is before read small =
+    let kept = kept_some (is_digit (get_or bytes i 0) 10) (digit_value (get_or bytes i 0)) digit is in
+    let value = digits_value_more 10 bytes i within in
+    let all : list_all (λ c. is_digit c 10) (take (i + 1) bytes) ≡ true =
+    rw (list_all_more (λ c. is_digit c 10) bytes i 0 within) (and_from _ _ before kept.1) in
+    let longer : length (take (i + 1) bytes) ≤ i + 1 = omega (arith, length-take (i + 1) bytes) in
+    let next : size * 10 + digit ≡ digits_value 10 (take (i + 1) bytes) = omega (arith, kept.0) in (
+      next,
+      all,
+      rw next (digits_value_short digits_model (take (i + 1) bytes) (i + 1) all longer),
+    )

@@ -9,8 +9,8 @@ pub mod FractionLemmas
 pub mod KeptLemmas
 pub mod LibraryLemmas
 pub mod NanoLemmas
-pub mod PositionLemmas
 pub mod ReadBackLemmas
+pub mod ScanningLemmas
 pub mod SplitLemmas
 pub mod TimeLemmas
 pub mod UnescapeLemmas

@@ -2,14 +2,7 @@
 ghost use Rattle.std.specs.Prelude.{◌≡◌, ◌<◌, ◌==◌, ◌∷◌, [], length, IfNone, IfSome};
 ghost use Rattle.std.specs.List.{position, slice_split};
 
-use memchr::memchr;
-
-/// The position of the first `byte`, counted from 0; `None` where it isn't there.
-fn position_of(bytes: &[u8], byte: u8) -> Option<usize>
-    ensures { result ≡ position (λ b. b == byte) bytes.now }
-{
-    memchr(byte, bytes)
-}
+use crate::scanning::position_of;
 
 /// The bytes before the first `byte` and those after it; `None` where it isn't there.
 pub fn first_part(bytes: &[u8], byte: u8) -> Option<(&[u8], &[u8])>

@@ -5,20 +5,63 @@ ghost use Rattle.std.specs.Fmt.{digit_glyph};
 ghost use Rattle.std.specs.List.{position};
 ghost use Rattle.osm_text.specs.Escapes.{escaped, hex_escape, is_reserved};
 
+use crate::scanning::{ByteTest, first_position, first_set};
 use osm_entity::{Bytes, NoMemory, Text};
+use std::simd::prelude::*;
 
-/// Whether the byte is written as an escape.
-fn must_escape(byte: u8) -> bool
-    ensures { result ≡ is_reserved byte }
-{
-    byte <= b' ' || matches!(byte, b'%' | b',' | b'=' | b'@' | 127)
+/// Whether a byte is written as an escape.
+#[derive(Clone, Copy)]
+struct Reserved;
+
+impl ByteTest for Reserved {
+    ghost passes = { λ _. is_reserved };
+
+    #[inline(always)]
+    fn run_of_16(&self, bytes: &[u8], at: usize) -> usize {
+        let lanes = u8x16::from_slice(&bytes[at..]);
+        let low = lanes.simd_le(u8x16::splat(b' '));
+        let percent = low | lanes.simd_eq(u8x16::splat(b'%'));
+        let comma = percent | lanes.simd_eq(u8x16::splat(b','));
+        let equals = comma | lanes.simd_eq(u8x16::splat(b'='));
+        let at_sign = equals | lanes.simd_eq(u8x16::splat(b'@'));
+        first_set(
+            (at_sign | lanes.simd_eq(u8x16::splat(127))).to_bitmask(),
+            16,
+        )
+    }
+
+    #[inline(always)]
+    fn run_of_8(&self, bytes: &[u8], at: usize) -> usize {
+        let lanes = u8x8::from_slice(&bytes[at..]);
+        let low = lanes.simd_le(u8x8::splat(b' '));
+        let percent = low | lanes.simd_eq(u8x8::splat(b'%'));
+        let comma = percent | lanes.simd_eq(u8x8::splat(b','));
+        let equals = comma | lanes.simd_eq(u8x8::splat(b'='));
+        let at_sign = equals | lanes.simd_eq(u8x8::splat(b'@'));
+        first_set((at_sign | lanes.simd_eq(u8x8::splat(127))).to_bitmask(), 8)
+    }
+
+    #[inline(always)]
+    fn run_of_4(&self, bytes: &[u8], at: usize) -> usize {
+        let lanes = u8x4::from_slice(&bytes[at..]);
+        let low = lanes.simd_le(u8x4::splat(b' '));
+        let percent = low | lanes.simd_eq(u8x4::splat(b'%'));
+        let comma = percent | lanes.simd_eq(u8x4::splat(b','));
+        let equals = comma | lanes.simd_eq(u8x4::splat(b'='));
+        let at_sign = equals | lanes.simd_eq(u8x4::splat(b'@'));
+        first_set((at_sign | lanes.simd_eq(u8x4::splat(127))).to_bitmask(), 4)
+    }
+
+    fn passes(&self, byte: u8) -> bool {
+        byte <= b' ' || matches!(byte, b'%' | b',' | b'=' | b'@' | 127)
+    }
 }
 
 /// The position of the first reserved byte, counted from 0; `None` where there is none.
 fn position_of_reserved(bytes: &[u8]) -> Option<usize>
     ensures { result ≡ position is_reserved bytes.now }
 {
-    bytes.iter().position(|byte| must_escape(*byte))
+    first_position(&Reserved, bytes)
 }
 
 /// The bytes before the first reserved one, it, and those after it; `None` where there is none.

@@ -26,12 +26,14 @@ fn split_minus(bytes: &[u8]) -> (bool, &[u8])
 fn with_sign(minus: bool, size: u64) -> Result<i64, BadNumber>
     ensures { result_ok result ≡ fitting minus size }
 {
-    let number = if minus {
-        -i128::from(size)
+    if size < 1 << 63 {
+        return Ok(if minus { -(size as i64) } else { size as i64 });
+    }
+    if minus && size == 1 << 63 {
+        Ok(i64::MIN)
     } else {
-        i128::from(size)
-    };
-    i64::try_from(number).map_err(|_| BadNumber)
+        Err(BadNumber)
+    }
 }
 
 /// Reads a whole number, as `-12`: an optional minus and digits.

@@ -1,6 +1,8 @@
 use Rattle.std.proofs.Common.{◌∙◌, sym}
 use Rattle.std.proofs.lemmas.Str.{IsUtf8-from_is_utf8}
-use Rattle.osm_opl_line.proofs.CuttingLemmas.{opl_line-long, opl_line-hash, opl_line-empty, opl_line-not_utf8, opl_line-control, opl_line-said}
+use Rattle.osm_opl_line.specs.Line.{Skipped}
+use Rattle.osm_opl_line.proofs.BytesLemmas.{said-free}
+use Rattle.osm_opl_line.proofs.CuttingLemmas.{opl_line-long, opl_line-hash, opl_line-empty, opl_line-fault, opl_line-said}
 use Rattle.osm_opl_line.proofs.cutting.cut.Goals as goal
 
 pub returns-then-line-gt-LONGEST_LINE-clause-value : goal.returns-then-line-gt-LONGEST_LINE-clause-value
@@ -17,30 +19,24 @@ returns-in_default-clause-value c =
     (opl_line-empty c.args.flow c.args.line.now c.if-line-gt-LONGEST_LINE.false (sym c.if-begins_with_hash.ensures)
     c.in_default.ensures.none)
 
-pub returns-then-not-is_text-clause-value : goal.returns-then-not-is_text-clause-value
-returns-then-not-is_text-clause-value c =
+pub returns-in-Some-byte_fault-clause-value : goal.returns-in-Some-byte_fault-clause-value
+returns-in-Some-byte_fault-clause-value c =
     sym
-    (opl_line-not_utf8 c.args.flow c.args.line.now c.if-line-gt-LONGEST_LINE.false (sym c.if-begins_with_hash.ensures)
-    c.in-Some.ensures.some (sym c.if-not-is_text.ensures))
-
-pub returns-then-has_control-clause-value : goal.returns-then-has_control-clause-value
-returns-then-has_control-clause-value c =
-    sym
-    (opl_line-control c.args.flow c.args.line.now c.if-line-gt-LONGEST_LINE.false (sym c.if-begins_with_hash.ensures)
-    c.in-Some.ensures.some (sym c.if-not-is_text.ensures) (sym c.if-has_control.ensures))
+    (opl_line-fault c.args.flow c.args.line.now c.in-Some-byte_fault.cause c.if-line-gt-LONGEST_LINE.false
+    (sym c.if-begins_with_hash.ensures) c.in-Some.ensures.some c.in-Some-byte_fault.ensures)
 
 pub cut_pieces-requires-clause-utf8 : goal.cut_pieces-requires-clause-utf8
 cut_pieces-requires-clause-utf8 c = λ ascii.
-    (c.in-Some.ensures.utf8 (IsUtf8-from_is_utf8 c.args.line.now (sym c.if-not-is_text.ensures)) ascii).1
+    (c.in-Some.ensures.utf8 (IsUtf8-from_is_utf8 c.args.line.now (said-free c.args.line.now Skipped c.in_default-byte_fault.ensures).0) ascii).1
 
 pub returns-in-Ok-clause-value : goal.returns-in-Ok-clause-value
 returns-in-Ok-clause-value c =
     sym
     (opl_line-said c.args.flow c.args.line.now c.if-line-gt-LONGEST_LINE.false (sym c.if-begins_with_hash.ensures)
-    c.in-Some.ensures.some (sym c.if-not-is_text.ensures) (sym c.if-has_control.ensures) ∙ c.in-Ok.ensures.good)
+    c.in-Some.ensures.some c.in_default-byte_fault.ensures ∙ c.in-Ok.ensures.good)
 
 pub returns-in-Err-clause-value : goal.returns-in-Err-clause-value
 returns-in-Err-clause-value c =
     sym
     (opl_line-said c.args.flow c.args.line.now c.if-line-gt-LONGEST_LINE.false (sym c.if-begins_with_hash.ensures)
-    c.in-Some.ensures.some (sym c.if-not-is_text.ensures) (sym c.if-has_control.ensures) ∙ c.in-Err.ensures.refused)
+    c.in-Some.ensures.some c.in_default-byte_fault.ensures ∙ c.in-Err.ensures.refused)

@@ -1,0 +1,12 @@
+use Rattle.std.proofs.Common.{◌≡◌, ◌<◌, ◌^◌, true, take}
+use Rattle.std.specs.Char.{is_digit}
+use Rattle.std.specs.List.{list_all}
+use Rattle.std.specs.Str.Parse.{digits_value}
+use Rattle.osm_text.proofs.digits.size_of_few.Given as goal
+
+abbrev pub invariant-loop-byte : goal.invariant-loop-byte
+invariant-loop-byte l = record {
+  read : l.size ≡ digits_value 10 (take l.byte-index l.bytes);
+  digits : list_all (λ c. is_digit c 10) (take l.byte-index l.bytes) ≡ true;
+  small : l.size < 10 ^ l.byte-index;
+}
