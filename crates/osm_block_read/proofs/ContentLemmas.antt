@@ -146,7 +146,7 @@ read-whole raw fields table old mid scale is one texts within none even groups n
   said = block_with (map (part_in raw) old.texts.items) groups.part scale;
   said_is = block-said raw fields table (map (part_in raw) old.texts.items) groups.part scale is one texts
       groups.said_is numbers;
-  setting = ap (λ v. setting_of raw v.items scale) (sym groups.more.texts);
+  setting = ap (λ v. setting_of (map (part_in raw) v.items) scale) (sym groups.more.texts);
   entries =
       groups.more.entries
       ∙ ap (λ entries. joined entries (all_entries groups.part))

@@ -1,12 +1,11 @@
 -- What the check of a block gives the item of an entity.
-use Rattle.std.proofs.Common.{◌≡◌, ◌≢◌, ◌∙◌, ◌<◌, ◌≤◌, ◌^◌, ◌+◌, ◌∷◌, [], ℕ, ℤ, zero, suc, Bool, true, false, not, List, Option, Some, None, length, map, drop, get_or, ltb-false, refl, sym, ap}
+use Rattle.std.proofs.Common.{◌≡◌, ◌≢◌, ◌∙◌, ◌<◌, ◌≤◌, ◌^◌, ◌+◌, ◌∷◌, [], ℕ, ℤ, Bool, true, false, not, List, Option, Some, None, length, map, drop, get_or, ltb-false, refl, sym, ap}
 use Rattle.std.specs.Prelude.{◌&&◌, ◌||◌, ◌==◌, All, if◌then◌else◌, nat_lt}
 use Rattle.std.specs.List.{list_all, list_any}
-use Rattle.std.specs.Str.{IsUtf8, is_utf8}
+use Rattle.std.specs.Str.{is_utf8}
 use Rattle.std.proofs.lemmas.Bool.{false≢true}
 use Rattle.std.proofs.lemmas.List.{drop_more}
 use Rattle.std.proofs.lemmas.List.Elements.{All-cons, All-map, All-nil}
-use Rattle.std.proofs.lemmas.Str.{IsUtf8-from_is_utf8}
 use Rattle.osm_entity.specs.Counts.{counted}
 use Rattle.osm_entity.specs.Entities.{IsEntity, body_fits, greatest_weight, weight_of}
 use Rattle.osm_entity.specs.declared.parts.Body.{Body}
@@ -28,16 +27,6 @@ pub and_right : (a b : Bool) → a && b ≡ true → b ≡ true
 and_right true b both = both
 and_right false true both = refl
 and_right false false both = both
-
--- no bytes are UTF-8
-nothing-utf8 : IsUtf8 []
-nothing-utf8 = ([], (refl, refl))
-
--- a text of a list of texts, or the empty one past the end, is UTF-8
-pub text-utf8 : (texts : List (List ℕ)) (n : ℕ) → list_all is_utf8 texts ≡ true → IsUtf8 (get_or texts n [])
-text-utf8 [] n all = nothing-utf8
-text-utf8 (text ∷ texts) zero all = IsUtf8-from_is_utf8 text (and_left (is_utf8 text) (list_all is_utf8 texts) all)
-text-utf8 (text ∷ texts) (suc n) all = text-utf8 texts n (and_right (is_utf8 text) (list_all is_utf8 texts) all)
 
 -- whether the parts from a place on are UTF-8, by the first of them
 pub texts-more : (raw : List ℕ) (spans : List Span) (at : ℕ) (span : Span) → at < length spans →

@@ -7,9 +7,9 @@ use Rattle.std.specs.Option.{option_or}
 use Rattle.osm_entity.specs.declared.verdict.Cause.{Cause}
 use Rattle.osm_block_read.specs.Entries.{Entry, SettingValue, entry_item}
 use Rattle.osm_block_read.specs.Faults.{entries_fault, entry_fault}
-use Rattle.osm_block_read.specs.PlanValue.{PlanValue}
-use Rattle.osm_block_read.specs.Planned.{IsPlanOf, content_plan, items_planned, setting_planned}
+use Rattle.osm_block_read.specs.Planned.{entries_from, items_from}
 use Rattle.osm_block_read.specs.Rows.{entries_of}
+use Rattle.osm_block_read.specs.Seen.{setting_of}
 use Rattle.osm_block_read.specs.declared.content.Content.{Content}
 
 -- the element at a place, and those after it
@@ -37,17 +37,16 @@ fine-first None more fine = refl
 fine-first (Some cause) more fine = cc
 
 -- the entry that a plan comes to next: nothing is wrong with it, and its item is the next
-pub next-entry : (raw : List ℕ) (c : Content) (at : ℕ) (e : Entry) → IsPlanOf raw (content_plan c at) →
+pub next-entry : (texts : List (List ℕ)) (c : Content) (at : ℕ) (e : Entry) →
+    entries_fault (setting_of texts c.scale) (entries_from at c) ≡ None →
     slice_get (entries_of c.rows) at ≡ Some e →
-    (entry_fault (setting_planned raw (content_plan c at)) e ≡ None)
-    × (slice_get (items_planned raw (content_plan c at)) 0 ≡ Some
-    (entry_item (setting_planned raw (content_plan c at)) e))
-next-entry raw c at e planned is =
-    let s : SettingValue = setting_planned raw (content_plan c at) in
-    let here : drop at (entries_of c.rows) ≡ e ∷ drop (at + 1) (entries_of c.rows) =
-    drop-get (entries_of c.rows) at e is in (
-      fine-first (entry_fault s e) (entries_fault s (drop (at + 1) (entries_of c.rows)))
-          (ap (entries_fault s) (sym here) ∙ planned.fine),
+    (entry_fault (setting_of texts c.scale) e ≡ None)
+    × (slice_get (items_from at texts c) 0 ≡ Some (entry_item (setting_of texts c.scale) e))
+next-entry texts c at e fine is =
+    let s : SettingValue = setting_of texts c.scale in
+    let here : entries_from at c ≡ e ∷ entries_from (at + 1) c = drop-get (entries_of c.rows) at e is in (
+      fine-first (entry_fault s e) (entries_fault s (entries_from (at + 1) c))
+          (ap (entries_fault s) (sym here) ∙ fine),
       ap (λ entries. slice_get (map (entry_item s) entries) 0) here,
     )
 
@@ -61,28 +60,31 @@ fine-rest : (s : SettingValue) (entries : List Entry) → entries_fault s entrie
 fine-rest s [] none = refl
 fine-rest s (e ∷ more) none = rest-fine (entry_fault s e) (entries_fault s more) none
 
--- a plan whose next entry was passed
-abbrev pub passed : PlanValue → PlanValue
-passed plan = record plan { entries = drop 1 plan.entries }
-
--- is one of the same bytes
-pub passed-planned : (raw : List ℕ) (plan : PlanValue) → IsPlanOf raw plan → IsPlanOf raw (passed plan)
-passed-planned raw plan is = record {
-  within = is.within;
-  texts = is.texts;
-  fine = fine-rest (setting_planned raw plan) plan.entries is.fine;
-}
-
 drop-one : {X : Type 0} (xs : List X) (at : ℕ) → drop (suc at) xs ≡ drop 1 (drop at xs)
 drop-one [] zero = refl
 drop-one [] (suc at) = refl
 drop-one (x ∷ xs) zero = refl
 drop-one (x ∷ xs) (suc at) = drop-one xs at
 
--- the plan of a content of which one entry more was passed
-pub plan-passed : (c : Content) (at : ℕ) (plan : PlanValue) → content_plan c at ≡ plan →
-    content_plan c (at + 1) ≡ passed plan
-plan-passed c at plan is =
-    ap (λ entries. record { texts = c.texts.items; scale = c.scale; entries = entries })
-    (ap (λ n. drop n (entries_of c.rows)) (add-one at) ∙ drop-one (entries_of c.rows) at)
-    ∙ ap passed is
+-- the entries once one more was passed
+entries-passed : (c : Content) (at : ℕ) → entries_from (at + 1) c ≡ drop 1 (entries_from at c)
+entries-passed c at = ap (λ n. drop n (entries_of c.rows)) (add-one at) ∙ drop-one (entries_of c.rows) at
+
+map-drop-one : {X Y : Type 0} (f : X → Y) (xs : List X) → map f (drop 1 xs) ≡ drop 1 (map f xs)
+map-drop-one f [] = refl
+map-drop-one f (x ∷ xs) = refl
+
+-- the items then
+pub items-passed : (texts : List (List ℕ)) (c : Content) (at : ℕ) →
+    items_from (at + 1) texts c ≡ drop 1 (items_from at texts c)
+items-passed texts c at =
+    ap (map (entry_item (setting_of texts c.scale))) (entries-passed c at)
+    ∙ map-drop-one (entry_item (setting_of texts c.scale)) (entries_from at c)
+
+-- of which nothing is wrong with any
+pub fine-passed : (texts : List (List ℕ)) (c : Content) (at : ℕ) →
+    entries_fault (setting_of texts c.scale) (entries_from at c) ≡ None →
+    entries_fault (setting_of texts c.scale) (entries_from (at + 1) c) ≡ None
+fine-passed texts c at fine =
+    ap (entries_fault (setting_of texts c.scale)) (entries-passed c at)
+    ∙ fine-rest (setting_of texts c.scale) (entries_from at c) fine

@@ -1,6 +1,6 @@
 -- A block as the code reads it, part after part.
 -- Here each part is known from the whole block; the code adds the entities of one after those of the others.
-use Rattle.std.specs.Prelude.{ℕ, ◌≡◌, List, length, All, Option, Some, None, if◌then◌else◌}
+use Rattle.std.specs.Prelude.{ℕ, ◌≡◌, List, length, map, All, Option, Some, None, if◌then◌else◌}
 use Rattle.osm_entity.specs.declared.kind.Kind.{Kind}
 use Rattle.osm_entity.specs.declared.kind.Kind.TheVariants.{Node, Way, Relation}
 use Rattle.osm_wire.specs.Entries.{◌>>=◌, scalar}
@@ -10,7 +10,7 @@ use Rattle.osm_block_read.specs.Block.{Block, all_entries, block, joined}
 use Rattle.osm_block_read.specs.Entries.{Entry}
 use Rattle.osm_block_read.specs.Plain.{node_entry, way_entry, relation_entry}
 use Rattle.osm_block_read.specs.Rows.{AreRowsIn, IsAdded, entries_of}
-use Rattle.osm_block_read.specs.Spans.{IsSpanIn}
+use Rattle.osm_block_read.specs.Spans.{IsSpanIn, part_in}
 use Rattle.osm_block_read.specs.Seen.{setting_of}
 use Rattle.osm_block_read.specs.declared.content.Content.{Content}
 use Rattle.osm_block_read.specs.declared.row.Rows.{Rows}
@@ -69,7 +69,7 @@ pub record IsPartRead {T : Type 0} (old new : Content) (said : Option T)
 pub record IsBlockRead (raw : List ℕ) (c : Content) : Type 0 where
   pub said : Block
   pub said_is : block raw ≡ Some said
-  pub setting : said.setting ≡ setting_of raw c.texts.items c.scale
+  pub setting : said.setting ≡ setting_of (map (part_in raw) c.texts.items) c.scale
   pub entries : entries_read c ≡ all_entries said.groups
   pub texts : All (IsSpanIn (length raw)) c.texts.items
   pub rows : AreRowsIn c.rows

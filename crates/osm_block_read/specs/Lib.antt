@@ -12,7 +12,6 @@ pub mod ListCodes
 pub mod Numbers
 pub mod Pieces
 pub mod Plain
-pub mod PlanValue
 pub mod Planned
 pub mod Rows
 pub mod Seen

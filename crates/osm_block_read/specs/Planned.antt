@@ -1,50 +1,40 @@
--- What a plan says of the bytes of its block.
--- Here a plan and the bytes give items; the code makes them one by one.
-use Rattle.std.specs.Prelude.{ℕ, ◌≡◌, true, List, length, map, drop, All, None, Result, Ok, Err}
-use Rattle.std.specs.List.{list_all}
-use Rattle.std.specs.Str.{is_utf8}
+-- What a plan still has to give, and what keeps it.
+-- Here texts, numbers and a place give items; the code makes them one by one.
+use Rattle.std.specs.Prelude.{ℕ, ◌≡◌, List, map, drop, None, Result, Ok, Err}
 use Rattle.osm_entity.specs.Items.{ItemValue}
 use Rattle.osm_entity.specs.declared.verdict.Cause.{Cause}
 use Rattle.osm_block_read.specs.Block.{block_said}
-use Rattle.osm_block_read.specs.Entries.{SettingValue, entry_item}
+use Rattle.osm_block_read.specs.Entries.{Entry, entry_item}
 use Rattle.osm_block_read.specs.Faults.{entries_fault}
-use Rattle.osm_block_read.specs.PlanValue.{PlanValue}
 use Rattle.osm_block_read.specs.Rows.{AreRowsIn, entries_of}
-use Rattle.osm_block_read.specs.Spans.{IsSpanIn}
 use Rattle.osm_block_read.specs.Seen.{setting_of}
 use Rattle.osm_block_read.specs.declared.content.Content.{Content}
 use Rattle.osm_block_read.specs.declared.error.BlockError.{BlockError}
 use Rattle.osm_block_read.specs.declared.error.BlockError.TheVariants.{Bad, Memory}
 use Rattle.osm_block_read.specs.declared.plan.Plan.TheInside.{Inside}
 
--- the plan of a content, of which some entries were passed
-abbrev pub content_plan : Content → ℕ → PlanValue
-content_plan c at = record { texts = c.texts.items; scale = c.scale; entries = drop at (entries_of c.rows) }
+-- the entries of a content from a place on
+abbrev pub entries_from : ℕ → Content → List Entry
+entries_from at c = drop at (entries_of c.rows)
 
--- how contracts see a plan
-abbrev pub plan_seen : Inside → PlanValue
-plan_seen p = content_plan p.content p.at
+-- the items of the entries of a content from a place on, by the texts of its block
+abbrev pub items_from : ℕ → List (List ℕ) → Content → List ItemValue
+items_from at texts c = map (entry_item (setting_of texts c.scale)) (entries_from at c)
 
--- the setting of a plan's block, by the bytes of the block
-abbrev pub setting_planned : List ℕ → PlanValue → SettingValue
-setting_planned raw plan = setting_of raw plan.texts plan.scale
+-- how contracts see a plan: the items that it still has to give
+abbrev pub plan_seen : Inside → List ItemValue
+plan_seen p = items_from p.at p.texts.items p.content
 
--- the items that a plan still has to give, by the bytes of its block
-abbrev pub items_planned : List ℕ → PlanValue → List ItemValue
-items_planned raw plan = map (entry_item (setting_planned raw plan)) plan.entries
+-- nothing is wrong with what a plan still has to give
+pub record IsPlan (p : Inside) : Type 0 where
+  pub rows : AreRowsIn p.content.rows
+  pub fine : entries_fault (setting_of p.texts.items p.content.scale) (entries_from p.at p.content) ≡ None
 
--- a plan is one of these bytes: its texts lie in them and are UTF-8, and nothing is wrong with what it still has to
--- give
-pub record IsPlanOf (raw : List ℕ) (plan : PlanValue) : Type 0 where
-  pub within : All (IsSpanIn (length raw)) plan.texts
-  pub texts : list_all is_utf8 (setting_planned raw plan).texts ≡ true
-  pub fine : entries_fault (setting_planned raw plan) plan.entries ≡ None
-
--- a content was read and checked: it says the items of the block, and is planned
-pub record IsChecked (raw : List ℕ) (c : Content) : Type 0 where
+-- a content was read and checked: with these texts it says the items of the block, and nothing is wrong with them
+pub record IsChecked (raw : List ℕ) (texts : List (List ℕ)) (c : Content) : Type 0 where
   pub rows : AreRowsIn c.rows
-  pub items : block_said raw ≡ Ok (items_planned raw (content_plan c 0))
-  pub planned : IsPlanOf raw (content_plan c 0)
+  pub items : block_said raw ≡ Ok (items_from 0 texts c)
+  pub fine : entries_fault (setting_of texts c.scale) (entries_of c.rows) ≡ None
 
 -- a refusal has the cause that is said, or is out of memory
 abbrev pub IsRefused : Result (List ItemValue) Cause → BlockError → Type 0

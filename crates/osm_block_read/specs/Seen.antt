@@ -1,19 +1,17 @@
 -- How contracts see what the code has of a block.
--- Here a setting has the texts, and an entry its lists; the code has where they lie, and slices.
-use Rattle.std.specs.Prelude.{ℕ, ℤ, List, map}
+-- Here an entry has its lists; the code has slices.
+use Rattle.std.specs.Prelude.{ℕ, ℤ, List}
 use Rattle.osm_entity.specs.declared.parts.Place.{Place}
 use Rattle.osm_block_read.specs.Entries.{Entry, EntryBody, At, Along, Having, SettingValue, degrees_at}
-use Rattle.osm_block_read.specs.Spans.{part_in}
 use Rattle.osm_block_read.specs.declared.entry_ref.BodyRef.{BodyRef}
 use Rattle.osm_block_read.specs.declared.entry_ref.BodyRef.TheVariants.{At as AtPlace, Along as AlongRefs, Having as HavingMembers}
 use Rattle.osm_block_read.specs.declared.entry_ref.EntryRef.{EntryRef}
 use Rattle.osm_block_read.specs.declared.setting.Scale.{Scale}
-use Rattle.osm_block_read.specs.declared.span.Span.{Span}
 
--- the setting of a block's bytes, the spans of its texts, and its scale
-abbrev pub setting_of : List ℕ → List Span → Scale → SettingValue
-setting_of raw spans scale = record {
-  texts = map (part_in raw) spans;
+-- the setting of a block's texts and its scale
+abbrev pub setting_of : List (List ℕ) → Scale → SettingValue
+setting_of texts scale = record {
+  texts = texts;
   granularity = scale.granularity;
   date_granularity = scale.date_granularity;
   lat_offset = scale.lat_offset;

@@ -1,5 +1,5 @@
-//! Blocks of PBF files, read: a block is checked whole into numbers, and its entities are then
-//! handed out one by one, with texts that are parts of its bytes.
+//! Blocks of PBF files, read: a block is checked whole into texts and numbers, and its entities are
+//! then handed out one by one. Each text is made once for its block, and copied for its entities.
 #![tactic(auto)]
 
 mod codes;

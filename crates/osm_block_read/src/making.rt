@@ -1,7 +1,5 @@
 //! Makes the parts of the item of an entity of a block.
 ghost use Rattle.std.specs.Prelude.{◌≡◌, ◌<◌, ◌^◌, map, true, IfOk};
-ghost use Rattle.std.specs.List.{list_all};
-ghost use Rattle.std.specs.Str.{is_utf8};
 ghost use Rattle.osm_entity.specs.Counts.{counted};
 ghost use Rattle.osm_entity.specs.Entities.{body_fits};
 ghost use Rattle.osm_block_read.specs.Entries.{entry_body, entry_member, entry_tag, kind_of_number, text_at};
@@ -13,13 +11,15 @@ use crate::setting::Setting;
 use osm_entity::{Body, Kind, Member, Members, NoMemory, Refs, Tag, Tags, Text};
 use std::alloc::Global;
 
-/// The text of an index.
+/// The text of an index. It is empty past the last.
 #[inline(always)]
 pub(crate) fn make_text(alloc: Global, setting: &Setting<'_>, index: i64) -> Result<Text, NoMemory>
-    requires { list_all is_utf8 setting.now.texts ≡ true }
     ensures { IfOk result (λ text. text ≡ text_at setting.now.texts index) }
 {
-    Text::from_utf8(alloc, setting.text(index))
+    match setting.find_text(index) {
+        Some(text) => text.copy(alloc),
+        None => Ok(Text::new(alloc)),
+    }
 }
 
 /// The tags of indexes.
@@ -28,7 +28,6 @@ pub(crate) fn make_tags(
     setting: &Setting<'_>,
     tags: &[EntryTag],
 ) -> Result<Tags, NoMemory>
-    requires { list_all is_utf8 setting.now.texts ≡ true }
     ensures { IfOk result (λ made. made ≡ map (entry_tag setting.now) tags.now) }
 {
     let mut made = Tags::with_room(alloc, tags.len())?;
@@ -47,8 +46,7 @@ pub(crate) fn make_body(
     setting: &Setting<'_>,
     body: BodyRef<'_>,
 ) -> Result<Body, NoMemory>
-    requires texts { list_all is_utf8 setting.now.texts ≡ true }
-    requires fits { body_fits (entry_body setting.now (body_seen body)) ≡ true }
+    requires { body_fits (entry_body setting.now (body_seen body)) ≡ true }
     ensures { IfOk result (λ made. made ≡ entry_body setting.now (body_seen body.entry)) }
 {
     match body {
@@ -66,7 +64,6 @@ fn make_members(
     setting: &Setting<'_>,
     members: &[EntryMember],
 ) -> Result<Members, NoMemory>
-    requires { list_all is_utf8 setting.now.texts ≡ true }
     ensures { IfOk result (λ made. made ≡ map (entry_member setting.now) members.now) }
 {
     let mut made = Members::with_room(alloc, members.len())?;

@@ -27,17 +27,14 @@ impl<'a> Model for Piece<'a> {
 }
 
 impl<'a> Piece<'a> {
-    ghost use Rattle.std.specs.Prelude.{true, None};
-    ghost use Rattle.std.specs.List.{list_all};
-    ghost use Rattle.std.specs.Str.{is_utf8};
+    ghost use Rattle.std.specs.Prelude.{None};
     ghost use Rattle.osm_block_read.specs.Entries.{entry_item};
     ghost use Rattle.osm_block_read.specs.Faults.{entry_fault};
     ghost use Rattle.osm_block_read.specs.Seen.{entry_seen};
 
     // The piece of an entity with which nothing is wrong.
     pub(crate) fn new(setting: Setting<'a>, entry: EntryRef<'a>) -> Piece<'a>
-        requires texts { list_all is_utf8 setting.texts ≡ true }
-        requires fine { entry_fault setting (entry_seen entry) ≡ None }
+        requires { entry_fault setting (entry_seen entry) ≡ None }
         ensures { result ≡ entry_item setting.entry (entry_seen entry.entry) }
     {
         Piece { setting, entry }

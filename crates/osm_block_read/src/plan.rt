@@ -1,8 +1,8 @@
-//! The plan of a block: its numbers, each of which was checked.
-ghost use Rattle.std.specs.Prelude.{◌≡◌, ℕ, List, [], Ok, OnOk, IfErr, OnErr, drop, MatchOption, slice_get, Some};
+//! The plan of a block: its texts and its numbers, each of which was checked.
+ghost use Rattle.std.specs.Prelude.{◌≡◌, [], Ok, OnOk, IfErr, OnErr, drop, MatchOption, slice_get, Some};
 ghost use Rattle.osm_block_read.specs.Block.{block_said};
 ghost use Rattle.osm_block_read.specs.Faults.{entries_fault};
-ghost use Rattle.osm_block_read.specs.Planned.{IsChecked, IsPlanOf, IsRefused, items_planned};
+ghost use Rattle.osm_block_read.specs.Planned.{IsChecked, IsRefused};
 ghost use Rattle.osm_block_read.specs.Rows.{AreRowsIn, entries_of};
 
 use crate::content::Content;
@@ -10,28 +10,30 @@ use crate::error::BlockError;
 use crate::piece::Piece;
 use crate::row::Rows;
 use crate::setting::Setting;
-use osm_entity::Cause;
+use crate::table::make_texts;
+use osm_entity::{Cause, Text};
 use std::alloc::Global;
 use std::marker::Model;
 
-/// A block that was checked, as numbers alone, and how many of its entities were passed. Contracts
-/// see where its texts lie, its scale, and the entries that are still to come.
+/// A block that was checked: its texts, its numbers, and how many of its entities were passed.
+/// Contracts see the items that are still to come.
 #[derive(Debug, Drop)]
 pub struct Plan {
     content: Content,
+    texts: Vec<Text>,
     at: usize,
 }
 
 impl Model for Plan {
-    ghost use Rattle.osm_block_read.specs.PlanValue.{PlanValue};
-    ghost use Rattle.osm_block_read.specs.Planned.{plan_seen};
-    ghost use Rattle.osm_block_read.specs.Rows.{AreRowsIn};
+    ghost use Rattle.std.specs.Prelude.{List};
+    ghost use Rattle.osm_entity.specs.Items.{ItemValue};
+    ghost use Rattle.osm_block_read.specs.Planned.{IsPlan, plan_seen};
 
-    ghost Value = { PlanValue };
+    ghost Value = { List ItemValue };
 
     ghost view = { plan_seen };
 
-    ghost invariant = { λ p. AreRowsIn p.content.rows };
+    ghost invariant = { IsPlan };
 }
 
 /// Checks a block whole, and puts its plan in the place of the one before. `Bad` with the first
@@ -45,13 +47,12 @@ impl Model for Plan {
 ///
 /// After an error nothing is planned.
 pub fn check_block(plan: &mut Plan, raw: &[u8]) -> Result<(), BlockError>
-    ensures items { OnOk result (block_said raw.now ≡ Ok (items_planned raw.now plan.new)) }
-    ensures checked { OnOk result (IsPlanOf raw.now plan.new) }
+    ensures items { OnOk result (block_said raw.now ≡ Ok plan.new) }
     ensures bad { IfErr result (IsRefused (block_said raw.now)) }
-    ensures none { OnErr result (plan.new.entries ≡ []) }
+    ensures none { OnErr result (plan.new ≡ []) }
 {
     plan.at = 0;
-    match plan.content.check(raw) {
+    match plan.content.check(&mut plan.texts, raw) {
         Ok(()) => Ok(()),
         Err(error) => {
             plan.content.rows.clear();
@@ -63,35 +64,32 @@ pub fn check_block(plan: &mut Plan, raw: &[u8]) -> Result<(), BlockError>
 impl Plan {
     /// No block.
     pub fn new(alloc: Global) -> Plan
-        ensures { result.entries ≡ [] }
+        ensures { result ≡ [] }
     {
         Plan {
             content: Content::new(alloc),
+            texts: Vec::new(alloc),
             at: 0,
         }
     }
 
-    /// The next entity of the block of these bytes, which stays the next. `None` exactly where all
-    /// were passed.
-    pub fn peek<'a>(&'a self, raw: &'a [u8]) -> Option<Piece<'a>>
-        requires { IsPlanOf raw.now self.now }
-        ensures { MatchOption result (items_planned raw.now self.now ≡ [])
-            (λ piece. slice_get (items_planned raw.now self.now) 0 ≡ Some piece) }
+    /// The next entity, which stays the next. `None` exactly where all were passed.
+    #[inline(always)]
+    pub fn peek(&self) -> Option<Piece<'_>>
+        ensures { MatchOption result (self.now ≡ [])
+            (λ piece. slice_get self.now 0 ≡ Some piece) }
     {
         if self.at >= self.content.rows.rows.len() {
             return None;
         }
         let content = &self.content;
-        let setting = Setting::new(raw, content.texts.as_slice(), content.scale);
+        let setting = Setting::new(self.texts.as_slice(), content.scale);
         Some(Piece::new(setting, content.rows.entry(self.at)))
     }
-}
 
-impl Plan {
     /// Passes the next entity, if there is one.
     pub fn pass(&mut self)
-        ensures passed { self.new ≡ record self.old { entries = drop 1 self.old.entries } }
-        ensures planned { (raw : List ℕ) → IsPlanOf raw self.old → IsPlanOf raw self.new }
+        ensures { self.new ≡ drop 1 self.old }
     {
         if self.at < self.content.rows.rows.len() {
             self.at += 1;
@@ -100,19 +98,17 @@ impl Plan {
 }
 
 impl Content {
-    // Reads a block and checks it.
-    fn check(&mut self, raw: &[u8]) -> Result<(), BlockError>
-        ensures ok { OnOk result (IsChecked raw.now self.new) }
+    // Reads a block, makes its texts, and checks it.
+    fn check(&mut self, texts: &mut Vec<Text>, raw: &[u8]) -> Result<(), BlockError>
+        ensures ok { OnOk result (IsChecked raw.now texts.new.items self.new) }
         ensures bad { IfErr result (IsRefused (block_said raw.now)) }
     {
         self.read(raw)?;
-        let setting = Setting::new(raw, self.texts.as_slice(), self.scale);
-        if !setting.are_texts() {
-            return Err(BlockError::Bad(Cause::BadText));
-        }
+        make_texts(texts, raw, self.texts.as_slice())?;
         if self.uneven {
             return Err(BlockError::Bad(Cause::BadLengths));
         }
+        let setting = Setting::new(texts.as_slice(), self.scale);
         match find_fault(&self.rows, &setting) {
             Some(cause) => Err(BlockError::Bad(cause)),
             None => Ok(()),

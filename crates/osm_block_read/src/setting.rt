@@ -1,16 +1,11 @@
 //! What holds for a whole block: its texts, and how its places and times are coded.
-ghost use Rattle.std.specs.Prelude.{◌≡◌, ◌<◌, ◌≤ℤ◌, pos, true, false, length, map, nat_abs, nat_le, IfNone, IfSome, All};
-ghost use Rattle.std.specs.List.{list_all};
-ghost use Rattle.std.specs.Str.{is_utf8};
+ghost use Rattle.std.specs.Prelude.{◌≡◌, ◌<◌, ◌≤ℤ◌, [], pos, true, false, length, nat_abs, nat_le, IfNone, IfSome, MatchOption};
 ghost use Rattle.osm_entity.specs.Entities.{place_fits};
 ghost use Rattle.osm_block_read.specs.Entries.{degrees_at, seconds_at, text_at};
 ghost use Rattle.osm_block_read.specs.Faults.{is_index_below, last_second};
-ghost use Rattle.osm_block_read.specs.Spans.{IsSpanIn, part_in};
 ghost use Rattle.osm_block_read.specs.Seen.{place_at, setting_of};
 
-use crate::header::is_text;
-use crate::span::{Span, span_at};
-use osm_entity::Place;
+use osm_entity::{Place, Text};
 use std::marker::Model;
 
 /// How the places and times of a block are coded.
@@ -26,67 +21,63 @@ pub(crate) struct Scale {
     pub lon_offset: i64,
 }
 
-/// The bytes of a block, where its texts lie in them, and its scale. Contracts see the texts
-/// themselves.
+/// The texts of a block, and its scale.
 #[derive(Debug, Drop)]
 pub(crate) struct Setting<'a> {
-    raw: &'a [u8],
-    spans: &'a [Span],
+    texts: &'a [Text],
     scale: Scale,
 }
 
 impl<'a> Model for Setting<'a> {
-    ghost use Rattle.std.specs.Prelude.{All, length};
     ghost use Rattle.osm_block_read.specs.Entries.{SettingValue};
-    ghost use Rattle.osm_block_read.specs.Spans.{IsSpanIn};
     ghost use Rattle.osm_block_read.specs.Seen.{setting_of};
 
     ghost Value = { SettingValue };
 
-    ghost view = { λ s. setting_of s.raw.now s.spans.now s.scale };
-
-    ghost invariant = { λ s. All (IsSpanIn (length s.raw.now)) s.spans.now };
+    ghost view = { λ s. setting_of s.texts.now s.scale };
 }
 
 impl<'a> Setting<'a> {
-    /// The setting of a block's bytes.
-    pub(crate) fn new(raw: &'a [u8], spans: &'a [Span], scale: Scale) -> Setting<'a>
-        requires { All (IsSpanIn (length raw.now)) spans.now }
-        ensures { result ≡ setting_of raw.now spans.now scale }
+    /// The setting of a block with these texts.
+    pub(crate) fn new(texts: &'a [Text], scale: Scale) -> Setting<'a>
+        ensures { result ≡ setting_of texts.now scale }
     {
-        Setting { raw, spans, scale }
+        Setting { texts, scale }
     }
 
     /// How many texts it has.
     pub(crate) fn count(&self) -> usize
         ensures { result ≡ length self.now.texts }
     {
-        self.spans.len()
+        self.texts.len()
     }
 
     /// Whether an index is that of a text.
     pub(crate) fn has_text(&self, index: i64) -> bool
         ensures { result ≡ is_index_below (length self.now.texts) index }
     {
-        is_index_below(self.spans.len(), index)
+        is_index_below(self.texts.len(), index)
     }
 
-    /// The text of an index. It is empty past the last.
+    /// The text of an index. `None` past the last.
+    #[inline(always)]
+    pub(crate) fn find_text(&self, index: i64) -> Option<&'a Text>
+        ensures { MatchOption result (text_at self.now.texts index ≡ [])
+            (λ text. text.now ≡ text_at self.now.texts index) }
+    {
+        let at = if index < 0 { 0 } else { index as usize };
+        self.texts.get(at)
+    }
+
+    /// The bytes of the text of an index. There are none past the last.
+    #[inline(always)]
     pub(crate) fn text(&self, index: i64) -> &'a [u8]
         ensures { result.now ≡ text_at self.now.texts index }
     {
-        let at = if index < 0 { 0 } else { index as usize };
-        match self.spans.get(at) {
-            Some(span) => &self.raw[span.start..span.end],
+        match self.find_text(index) {
+            Some(text) => text.as_slice(),
             None => &[],
         }
-    }
-
-    /// Whether all texts are UTF-8.
-    pub(crate) fn are_texts(&self) -> bool
-        ensures { result ≡ list_all is_utf8 self.now.texts }
-    {
-        are_texts(self.raw, self.spans)
     }
 
     /// The place of a coded latitude and longitude. `None` where it is past 180 or 90 degrees.
@@ -124,20 +115,6 @@ pub(crate) fn is_index_below(count: usize, index: i64) -> bool
     ensures { result ≡ is_index_below count index }
 {
     index >= 0 && (index as u64) < count as u64
-}
-
-// Whether the parts of bytes are UTF-8.
-fn are_texts(raw: &[u8], spans: &[Span]) -> bool
-    requires { All (IsSpanIn (length raw.now)) spans.now }
-    ensures { result ≡ list_all is_utf8 (map (part_in raw.now) spans.now) }
-{
-    for at in 0..spans.len() {
-        let span = span_at(spans, at);
-        if !is_text(&raw[span.start..span.end]) {
-            return false;
-        }
-    }
-    true
 }
 
 // The same number, where its size is at most this.

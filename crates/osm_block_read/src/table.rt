@@ -1,16 +1,20 @@
-//! The string table of a block: where its texts lie in the block's bytes.
-ghost use Rattle.std.specs.Prelude.{◌≡◌, [], length, map, All, None, Some, OnOk, IfErr, IfSome, IfNone};
+//! The string table of a block: where its texts lie in the block's bytes, and the texts.
+ghost use Rattle.std.specs.Prelude.{◌≡◌, [], length, map, true, false, All, None, Some, OnOk, IfErr, IfSome, IfNone};
+ghost use Rattle.std.specs.List.{list_all};
 ghost use Rattle.std.specs.Option.{option_map};
+ghost use Rattle.std.specs.Str.{is_utf8};
 ghost use Rattle.osm_wire.specs.Entries.{single_bytes};
 ghost use Rattle.osm_wire.specs.Messages.{good_front};
 ghost use Rattle.osm_block_read.specs.Strings.{table_texts};
 ghost use Rattle.osm_block_read.specs.Spans.{IsSpanIn, part_in};
 ghost use Rattle.osm_block_read.specs.Table.{IsNextSpan, IsSingleSpan, IsWellRest, entries_left};
-ghost use Rattle.osm_block_read.specs.Told.{BadWireWhere};
+ghost use Rattle.osm_block_read.specs.Told.{BadTextWhere, BadWireWhere};
 
 use crate::error::{BAD_WIRE, BlockError};
+use crate::header::is_text;
 use crate::message::Message;
 use crate::span::Span;
+use osm_entity::{Cause, Text};
 use osm_wire::Fields;
 
 /// Where the one entry of a field of a message lies, which is well formed. `None` where it has no
@@ -43,6 +47,31 @@ pub(crate) fn read_table(spans: &mut Vec<Span>, raw: &[u8], table: Span) -> Resu
     let mut fields = Fields::new(content);
     while let Some(span) = next_span(begin, &mut fields, 1).ok_or(BAD_WIRE)? {
         spans.push(span)?;
+    }
+    Ok(())
+}
+
+/// Makes the texts that lie at these spans, in the place of those before. Each is made once, and
+/// copied for the entities that name it.
+pub(crate) fn make_texts(
+    texts: &mut Vec<Text>,
+    raw: &[u8],
+    spans: &[Span],
+) -> Result<(), BlockError>
+    requires { All (IsSpanIn (length raw.now)) spans.now }
+    ensures ok { OnOk result (texts.new.items ≡ map (part_in raw.now) spans.now) }
+    ensures utf8 { OnOk result (list_all is_utf8 (map (part_in raw.now) spans.now) ≡ true) }
+    ensures bad { IfErr result (BadTextWhere
+        (list_all is_utf8 (map (part_in raw.now) spans.now) ≡ false)) }
+{
+    let alloc = *texts.allocator();
+    texts.clear();
+    for span in spans {
+        let part = &raw[span.start..span.end];
+        if !is_text(part) {
+            return Err(BlockError::Bad(Cause::BadText));
+        }
+        texts.push(Text::from_utf8(alloc, part)?)?;
     }
     Ok(())
 }

@@ -4,7 +4,6 @@
 //! still there, and is checked at the next call.
 ghost use Rattle.std.specs.Prelude.{◌≡◌, [], ◌∷◌, Ok, Err, Some, IfOk, IfNone, IfSome, OnErr};
 ghost use Rattle.osm_block_read.specs.Block.{block_said};
-ghost use Rattle.osm_block_read.specs.Planned.{IsPlanOf, items_planned};
 ghost use Rattle.osm_pbf.specs.Reading.{frame_said};
 ghost use Rattle.osm_pbf.specs.Steps.{AnswersItem};
 
@@ -46,24 +45,19 @@ impl Model for FrameLeft {
 
     ghost Value = { Result (List ItemValue) Cause };
 
-    ghost use Rattle.osm_pbf.specs.FrameLeft.{IsFrameLeft, frame_left_seen};
+    ghost use Rattle.osm_pbf.specs.FrameLeft.{frame_left_seen};
 
     ghost view = { frame_left_seen };
-
-    ghost invariant = { IsFrameLeft };
 }
 
 // The next item of a block that was checked, which is then passed.
-fn next_planned(alloc: Global, plan: &mut Plan, raw: &[u8]) -> Result<Option<Item>, NoMemory>
-    requires { IsPlanOf raw.now plan.old }
-    ensures some { IfOk result (λ found. IfSome found
-        (λ item. items_planned raw.now plan.old ≡ item ∷ items_planned raw.now plan.new)) }
-    ensures none { IfOk result (λ found. IfNone found (items_planned raw.now plan.old ≡ [])) }
+fn next_planned(alloc: Global, plan: &mut Plan) -> Result<Option<Item>, NoMemory>
+    ensures some { IfOk result (λ found. IfSome found (λ item. plan.old ≡ item ∷ plan.new)) }
+    ensures none { IfOk result (λ found. IfNone found (plan.old ≡ [])) }
     ensures ended { IfOk result (λ found. IfNone found (plan.new ≡ plan.old)) }
     ensures err { OnErr result (plan.new ≡ plan.old) }
-    ensures planned { IsPlanOf raw.now plan.new }
 {
-    let Some(piece) = plan.peek(raw) else {
+    let Some(piece) = plan.peek() else {
         return Ok(None);
     };
     let item = piece.item(alloc)?;
@@ -122,7 +116,7 @@ impl FrameLeft {
         ensures err { OnErr result (self.new ≡ self.old) }
     {
         match self.stage {
-            Stage::Checked => next_planned(self.alloc, &mut self.plan, self.raw.as_slice()),
+            Stage::Checked => next_planned(self.alloc, &mut self.plan),
             _ => Ok(None),
         }
     }
@@ -137,9 +131,9 @@ impl FrameLeft {
             Stage::Unchecked => {
                 check_block(&mut self.plan, self.raw.as_slice())?;
                 self.stage = Stage::Checked;
-                Ok(next_planned(self.alloc, &mut self.plan, self.raw.as_slice())?)
+                Ok(next_planned(self.alloc, &mut self.plan)?)
             }
-            Stage::Checked => { Ok(next_planned(self.alloc, &mut self.plan, self.raw.as_slice())?) }
+            Stage::Checked => { Ok(next_planned(self.alloc, &mut self.plan)?) }
         }
     }
 }

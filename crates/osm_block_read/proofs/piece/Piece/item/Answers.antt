@@ -15,8 +15,8 @@ unreachable-requires c =
     c.in_default.ensures.none in
     omega (arith, fine.time, late)
 
-pub make_body-requires-clause-fits : goal.make_body-requires-clause-fits
-make_body-requires-clause-fits c =
+pub make_body-requires : goal.make_body-requires
+make_body-requires c =
     (fine-parts c.self.inside.setting (entry_seen c.self.inside.entry) c.self.invariant.fine).fits
 
 pub invariant_of-entity : goal.invariant_of-entity

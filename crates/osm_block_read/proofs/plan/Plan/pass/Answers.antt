@@ -1,13 +1,13 @@
-use Rattle.std.proofs.Common.{subst, sym}
-use Rattle.osm_block_read.specs.Planned.{IsPlanOf}
-use Rattle.osm_block_read.proofs.PlanLemmas.{passed-planned, plan-passed}
+use Rattle.std.proofs.Common.{◌∙◌, ap, drop}
+use Rattle.osm_block_read.proofs.PlanLemmas.{fine-passed, items-passed}
 use Rattle.osm_block_read.proofs.plan.Plan.pass.Goals as goal
 
-pub returns-then-self-len-clause-passed : goal.returns-then-self-len-clause-passed
-returns-then-self-len-clause-passed c = plan-passed c.self.inside.content c.self.inside.at c.args.self.now
-    c.self.view_is
+pub invariant_of-self : goal.invariant_of-self
+invariant_of-self c = record {
+  rows = c.self.invariant.rows;
+  fine = fine-passed c.self.inside.texts.items c.self.inside.content c.self.inside.at c.self.invariant.fine;
+}
 
-pub returns-then-self-len-clause-planned : goal.returns-then-self-len-clause-planned
-returns-then-self-len-clause-planned c = λ raw is.
-    subst (IsPlanOf raw) (sym (plan-passed c.self.inside.content c.self.inside.at c.args.self.now c.self.view_is))
-    (passed-planned raw c.args.self.now is)
+pub returns-then-self-len : goal.returns-then-self-len
+returns-then-self-len c =
+    items-passed c.self.inside.texts.items c.self.inside.content c.self.inside.at ∙ ap (drop 1) c.self.view_is
