@@ -11,8 +11,8 @@ use Rattle.osm_report.specs.declared.fault.Fault.TheVariants.{Memory}
 use Rattle.osm_tasks.specs.Tasks.{TaskValue}
 use Rattle.osm_tasks.specs.declared.kind.TaskKind.{TaskKind}
 use Rattle.osm_run.specs.Commands.{Areas, all_kind_files, area_at, command_of_graph, kind_at, kind_files}
-use Rattle.osm_run.specs.Polygons.{IsAreaOf, WasAreaRefused, WereNotRead, WereRead, polygon_name}
-use Rattle.osm_run.specs.WordsRun.{IsCountedRun}
+use Rattle.osm_run.specs.Polygons.{IsAreaOf, WasAreaRefused, WereRead, polygon_name}
+use Rattle.osm_run.specs.WordsRun.{IsCountedRun, RanNoTask}
 use Rattle.osm_run.specs.declared.status.Status.{Status}
 use Rattle.osm_run.proofs.HeldLemmas.{plain_files}
 use Rattle.osm_run.proofs.KindFilesLemmas.{FilesOfKind, NoPolygon, OnlyPolygon, files_of_kind}
@@ -121,7 +121,7 @@ refused_by g n within areas middle now fault status is ends (NoPolygon reads fil
 pub read_refused : (tasks : List TaskValue) (n : ℕ) (areas : List (Option Area)) (before middle now : Moment)
     (fault : Fault) (status : Status) → n < length tasks → ReadTo tasks n areas before middle →
     WasAreaRefused n (polygon_name (all_kind_files (kind_at tasks n))) middle now fault → status.fault ≡ fault →
-    status.ends ≡ [] → WereNotRead tasks before now status
+    status.ends ≡ [] → RanNoTask tasks before now status
 read_refused tasks n areas before middle now fault status within read refused is ends g same =
     read g now status 0 same
     (refused_by g n (subst (λ ts. n < length ts) (sym same) within) (area_at areas) middle now fault status is ends
@@ -131,7 +131,7 @@ read_refused tasks n areas before middle now fault status within read refused is
 -- out of memory between two files
 pub read_no_further : (tasks : List TaskValue) (n : ℕ) (areas : List (Option Area)) (before now : Moment)
     (status : Status) → ReadTo tasks n areas before now → status.fault ≡ Memory → status.ends ≡ [] →
-    WereNotRead tasks before now status
+    RanNoTask tasks before now status
 read_no_further tasks n areas before now status read is ends g same =
     read g now status 0 same
     (idle_run (command_from n g (area_at areas)) now now status 0

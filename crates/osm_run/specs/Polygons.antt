@@ -114,8 +114,3 @@ IsReadFault task NoRoom bytes fault = fault ≡ Memory
 abbrev pub WereRead : List TaskValue → Areas → Moment → Moment → Type 0
 WereRead tasks areas before now = (g : GraphValue) (after : Moment) (status : Status) (steps : ℕ) → g.tasks ≡ tasks →
     IsCountedRun (command_with g areas) now after status steps → IsCountedRun (command_of_graph g) before after status steps
-
--- a polygon file of tasks was not read: that is the run of the whole command
-abbrev pub WereNotRead : List TaskValue → Moment → Moment → Status → Type 0
-WereNotRead tasks before after status = (g : GraphValue) → g.tasks ≡ tasks →
-    IsCountedRun (command_of_graph g) before after status 0

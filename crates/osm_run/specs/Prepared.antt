@@ -6,17 +6,15 @@ use Rattle.osm_host.specs.Moments.{Moment}
 use Rattle.osm_machine.specs.declared.kind.MachineKind.{MachineKind}
 use Rattle.osm_tasks.specs.Tasks.{TaskValue}
 use Rattle.osm_run.specs.Asked.{HasNoCircle, graph_asked}
-use Rattle.osm_run.specs.Commands.{Areas, command_of_graph, command_with, plan_of}
+use Rattle.osm_run.specs.Commands.{Areas, command_with, plan_of}
 use Rattle.osm_run.specs.Course.{Course, entries}
 use Rattle.osm_run.specs.Leaving.{HasNothing, HasRoomFor}
 use Rattle.osm_run.specs.Opened.{AreOpened, course_at_rest}
 use Rattle.osm_run.specs.Polygons.{WereRead}
 use Rattle.osm_run.specs.Went.{AreMachinesOf, AreStepsOf, DeviceSeen, HaveRun, with_keeps}
-use Rattle.osm_run.specs.WordsRun.{IsCountedRun}
 use Rattle.osm_run.specs.declared.machines.Left.{Left}
 use Rattle.osm_run.specs.declared.preparing.Prepared.{Prepared}
 use Rattle.osm_run.specs.declared.status.SourceEnd.{SourceEnd}
-use Rattle.osm_run.specs.declared.status.Status.{Status}
 
 -- tasks are ready to run: their polygon files were read, and then their other files were opened; the machines are made
 -- of those areas and devices, there is room for what they leave, and the entries of readers are at rest
@@ -39,11 +37,6 @@ pub record IsPrepared {S K : Type 0} (words : List (List ℕ)) (before now : Mom
     pub bare : HasNoCircle prepared.graph
     pub ready : AreReady prepared.graph.tasks before now prepared.ready.machines.items prepared.ready.left
         prepared.ready.ends
-
--- no task ran: that is the run of the whole command
-abbrev pub RanNoTask : List TaskValue → Moment → Moment → Status → Type 0
-RanNoTask tasks before after status = (g : GraphValue) → g.tasks ≡ tasks →
-    IsCountedRun (command_of_graph g) before after status 0
 
 -- the machines of a graph's tasks ran, and took this many steps
 pub record HaveFinished {S K : Type 0} (g : GraphValue) (before now : Moment) (left : Left S K) (ends : List SourceEnd)

@@ -6,6 +6,7 @@ use Rattle.osm_host.specs.Moments.{Moment}
 use Rattle.osm_report.specs.Lines.{fault_text}
 use Rattle.osm_report.specs.declared.fault.Fault.{Fault}
 use Rattle.osm_report.specs.declared.fault.Fault.TheVariants.{Memory}
+use Rattle.osm_tasks.specs.Tasks.{TaskValue}
 use Rattle.osm_run.specs.Asked.{HasNoCircle, IsRefusal, graph_asked}
 use Rattle.osm_run.specs.Codes.{code_of}
 use Rattle.osm_run.specs.Command.{Command}
@@ -30,6 +31,11 @@ TakesSteps k c ends (OutOfMemory memory) steps = steps ≤ 2 * messages_by k c +
 pub record IsCountedRun (k : Command) (before after : Moment) (status : Status) (steps : ℕ) : Type 0 where
   pub run : IsRun k before after status
   pub counted : TakesSteps k run.course status.ends run.how_far steps
+
+-- no task of these ran: that is the run of the whole command
+abbrev pub RanNoTask : List TaskValue → Moment → Moment → Status → Type 0
+RanNoTask tasks before after status = (g : GraphValue) → g.tasks ≡ tasks →
+    IsCountedRun (command_of_graph g) before after status 0
 
 -- words that ask for this, or for no graph, were refused, or their graph's command ran
 pub data IsRefusedOrRun (asked : Result GraphValue Fault) (before after : Moment) (status : Status) : Type 0 where

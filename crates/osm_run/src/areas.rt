@@ -8,7 +8,8 @@ ghost use Rattle.osm_poly.specs.Poly.{poly};
 ghost use Rattle.osm_run.specs.Codes.{code_of};
 ghost use Rattle.osm_run.specs.Commands.{all_kind_files, area_at};
 ghost use Rattle.osm_run.specs.Leaving.{AreAreasFor};
-ghost use Rattle.osm_run.specs.Polygons.{IsAreaOf, IsReadFault, PolygonWasRead, PolygonWasRefused, SourceWasRead, WasAreaRefused, WereNotRead, WereRead, polygon_name};
+ghost use Rattle.osm_run.specs.Polygons.{IsAreaOf, IsReadFault, PolygonWasRead, PolygonWasRefused, SourceWasRead, WasAreaRefused, WereRead, polygon_name};
+ghost use Rattle.osm_run.specs.WordsRun.{RanNoTask};
 ghost use Rattle.osm_run.specs.declared.areas.ReadEnd.TheVariants.{Ended};
 
 use crate::devices::polygon_name;
@@ -61,7 +62,7 @@ pub fn read_areas<H: Host>(
         (moment H.files H.said H.mute H.count H.gave H.known host.old)
         (moment H.files H.said H.mute H.count H.gave H.known host.new)) }
 
-    ensures stopped { IfErr result (WereNotRead tasks.now
+    ensures stopped { IfErr result (RanNoTask tasks.now
         (moment H.files H.said H.mute H.count H.gave H.known host.old)
         (moment H.files H.said H.mute H.count H.gave H.known host.new)) }
     ensures code { IfErr result (λ status. status.code ≡ code_of status.fault) }

@@ -8,9 +8,9 @@ ghost use Rattle.osm_run.specs.Codes.{code_of};
 ghost use Rattle.osm_run.specs.Commands.{area_at};
 ghost use Rattle.osm_run.specs.Leaving.{AreAreasFor, AreFresh, HasNothing, HasRoomFor};
 ghost use Rattle.osm_run.specs.Opened.{devices_seen};
-ghost use Rattle.osm_run.specs.Prepared.{AreReady, IsPrepared, RanNoTask};
+ghost use Rattle.osm_run.specs.Prepared.{AreReady, IsPrepared};
 ghost use Rattle.osm_run.specs.Went.{AreDevicesFor, AreMachinesOf};
-ghost use Rattle.osm_run.specs.WordsRun.{IsRefusedOrCounted};
+ghost use Rattle.osm_run.specs.WordsRun.{IsRefusedOrCounted, RanNoTask};
 
 use crate::areas::read_areas;
 use crate::asking::graph_to_run;

@@ -11,20 +11,12 @@ use std::thread::Threads;
 const WRITTEN: u64 = 29;
 
 /// Through a pipe that holds one message, to one sink.
-const ONE: [&[u8]; 6] = [b"--read-opl", b"a", b"--buffer", b"1", b"--write-opl", b"b"];
+const ONE: &[u8] = b"--read-opl a --buffer 1 --write-opl b";
 
 /// Through pipes that hold as many as they do by themselves, to two sinks.
-const TWO: [&[u8]; 7] = [
-    b"--read-opl",
-    b"a",
-    b"--tee",
-    b"--write-opl",
-    b"b",
-    b"--write-opl",
-    b"c",
-];
+const TWO: &[u8] = b"--read-opl a --tee --write-opl b --write-opl c";
 
-fn check<R>(rt: &R, on: On, words: &[&[u8]], watch: Watch)
+fn check<R>(rt: &R, on: On, words: &[u8], watch: Watch)
 where
     R: Abort + AllocGlobal + Threads + Wait + Sync,
 {
@@ -38,7 +30,7 @@ where
     assert!(rt; status.code == 0 && host.bytes() == bytes, "{on:?}");
 }
 
-fn is_held<R>(rt: &R, on: On, words: &[&[u8]], sinks: u64)
+fn is_held<R>(rt: &R, on: On, words: &[u8], sinks: u64)
 where
     R: Abort + AllocGlobal + Threads + Wait + Sync,
 {
@@ -55,8 +47,8 @@ where
 #[test]
 fn items_come_out_while_others_are_read(rt: HostRuntime) {
     for on in [On::Threads, On::One] {
-        is_held(&rt, on, &ONE, 1);
-        is_held(&rt, on, &TWO, 2);
+        is_held(&rt, on, ONE, 1);
+        is_held(&rt, on, TWO, 2);
     }
 }
 
@@ -69,5 +61,5 @@ fn a_reader_and_a_writer_run_at_one_time(rt: HostRuntime) {
         begun: 2,
         looks: 100_000_000,
     };
-    check(&rt, On::Threads, &COPY, watch);
+    check(&rt, On::Threads, COPY, watch);
 }

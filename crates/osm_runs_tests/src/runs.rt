@@ -1,4 +1,5 @@
-//! Runs on hosts in memory, on threads and on one, to a row: what `b` holds, what is said, and the entry of the reader.
+//! Runs on hosts in memory, on threads and on one, to a row: what `b` holds, what is said, and the
+//! entry of the reader.
 ghost use Rattle.std.specs.Prelude.{◌≡◌, ◌≢◌, ◌<◌};
 ghost use Rattle.std.specs.List.{AllPairs};
 
@@ -14,77 +15,13 @@ use std::sync::ledger::{Blank, Ledger};
 use std::thread::Threads;
 
 /// The words of a copy from `a` to `b`.
-pub(crate) const COPY: [&[u8]; 4] = [b"--read-opl", b"file=a", b"--write-opl", b"file=b"];
+pub(crate) const COPY: &[u8] = b"--read-opl file=a --write-opl file=b";
 
 /// Words that ask for a copy of a file of changes.
-const OTHER: [&[u8]; 4] = [
-    b"--read-opl-change",
-    b"file=a",
-    b"--write-opl-change",
-    b"file=b",
-];
+const OTHER: &[u8] = b"--read-opl-change file=a --write-opl-change file=b";
 
-/// Words that cut a box out, with the option of their name.
-const BOX: [&[u8]; 9] = [
-    b"--read-opl",
-    b"a",
-    b"--bounding-box",
-    b"left=0",
-    b"right=1",
-    b"bottom=0",
-    b"top=1",
-    b"--write-opl",
-    b"b",
-];
-
-const CASCADING: [&[u8]; 10] = [
-    b"--read-opl",
-    b"a",
-    b"--bounding-box",
-    b"left=0",
-    b"right=1",
-    b"bottom=0",
-    b"top=1",
-    b"cascadingRelations=yes",
-    b"--write-opl",
-    b"b",
-];
-
-const COMPLETE: [&[u8]; 10] = [
-    b"--read-opl",
-    b"a",
-    b"--bounding-box",
-    b"left=0",
-    b"right=1",
-    b"bottom=0",
-    b"top=1",
-    b"completeWays=yes",
-    b"--write-opl",
-    b"b",
-];
-
-const CLIPPED: [&[u8]; 10] = [
-    b"--read-opl",
-    b"a",
-    b"--bounding-box",
-    b"left=0",
-    b"right=1",
-    b"bottom=0",
-    b"top=1",
-    b"clipIncompleteEntities=yes",
-    b"--write-opl",
-    b"b",
-];
-
-/// Words that cut the area of the polygon file `c` out.
-const POLYGON: [&[u8]; 6] = [
-    b"--read-opl",
-    b"a",
-    b"--bounding-polygon",
-    b"c",
-    b"--write-opl",
-    b"b",
-];
+/// The most words of a command here.
+const MOST_WORDS: u32 = 16;
 
 /// What `c` holds: a polygon file whose third line is bad. A `/` is a newline.
 const BAD_POLYGON: &[u8] = b"x/1/0 zero/";
@@ -95,10 +32,12 @@ const BEFORE: &[u8] = b"as before";
 /// How many rows there are.
 const COUNT: u32 = 36;
 
-/// A row for each run, of two lines. The columns of the first: what it shows; its words; the pieces of its pulls; the
-/// call that fails, by its file, its kind and its number, at 0 none; and the file `a`, how often a part of it stands
-/// there, at 0 no file, and the part. Those of the second: the exit status; how many bytes the reader's source gave, and
-/// whether their end came; what is said behind the program's name; and what `b` holds. A `/` is a newline.
+/// A row for each run, of two lines. The columns of the first: what it shows; its words, which are
+/// parted by blanks, or `copy` or `other`; the pieces of its pulls; the call that fails, by its
+/// file, its kind and its number, at 0 none; and the file `a`, how often a part of it stands there,
+/// at 0 no file, and the part. Those of the second: the exit status; how many bytes the reader's
+/// source gave, and whether their end came; what is said behind the program's name; and what `b`
+/// holds. A `/` is a newline.
 const ROWS: &[u8] = b"\
 an empty file is copied|copy|both|||0|1||
 0|0|ended|||
@@ -156,21 +95,21 @@ spaces stand at both ends|copy|both|||0|1| w5  Nn1,n2 |
 0|12|ended||w5 v0 dV c0 t i0 u T Nn1,n2/|
 a change is copied|other|both|||0|1|n1 v2 dD/|
 0|9|ended||n1 v2 dD c0 t i0 u T x y/|
-a box is cut out|box|both|||0|1|n1 x0.5 y0.5/n2 x2 y2/n3 x3 y3/w1 Nn1,n2/w2 Nn2,n3/r1 Mr2@/r2 Mw1@/|
+a box is cut out|--read-opl a --bounding-box left=0 right=1 bottom=0 top=1 --write-opl b|both|||0|1|n1 x0.5 y0.5/n2 x2 y2/n3 x3 y3/w1 Nn1,n2/w2 Nn2,n3/r1 Mr2@/r2 Mw1@/|
 0|67|ended||n1 v0 dV c0 t i0 u T x0.5 y0.5/w1 v0 dV c0 t i0 u T Nn1,n2/r2 v0 dV c0 t i0 u T Mw1@/|
-relations of relations come along|cascading|both|||0|1|n1 x0.5 y0.5/n2 x2 y2/n3 x3 y3/w1 Nn1,n2/w2 Nn2,n3/r1 Mr2@/r2 Mw1@/|
+relations of relations come along|--read-opl a --bounding-box left=0 right=1 bottom=0 top=1 cascadingRelations=yes --write-opl b|both|||0|1|n1 x0.5 y0.5/n2 x2 y2/n3 x3 y3/w1 Nn1,n2/w2 Nn2,n3/r1 Mr2@/r2 Mw1@/|
 0|67|ended||n1 v0 dV c0 t i0 u T x0.5 y0.5/w1 v0 dV c0 t i0 u T Nn1,n2/r1 v0 dV c0 t i0 u T Mr2@/r2 v0 dV c0 t i0 u T Mw1@/|
-ways are completed|complete|both|||0|1|n1 x0.5 y0.5/n2 x2 y2/n3 x3 y3/w1 Nn1,n2/w2 Nn2,n3/r1 Mr2@/r2 Mw1@/|
+ways are completed|--read-opl a --bounding-box left=0 right=1 bottom=0 top=1 completeWays=yes --write-opl b|both|||0|1|n1 x0.5 y0.5/n2 x2 y2/n3 x3 y3/w1 Nn1,n2/w2 Nn2,n3/r1 Mr2@/r2 Mw1@/|
 0|67|ended||n1 v0 dV c0 t i0 u T x0.5 y0.5/n2 v0 dV c0 t i0 u T x2 y2/w1 v0 dV c0 t i0 u T Nn1,n2/r1 v0 dV c0 t i0 u T Mr2@/r2 v0 dV c0 t i0 u T Mw1@/|
-ways are clipped|clipped|both|||0|1|n1 x0.5 y0.5/n2 x2 y2/n3 x3 y3/w1 Nn1,n2/w2 Nn2,n3/r1 Mr2@/r2 Mw1@/|
+ways are clipped|--read-opl a --bounding-box left=0 right=1 bottom=0 top=1 clipIncompleteEntities=yes --write-opl b|both|||0|1|n1 x0.5 y0.5/n2 x2 y2/n3 x3 y3/w1 Nn1,n2/w2 Nn2,n3/r1 Mr2@/r2 Mw1@/|
 0|67|ended||n1 v0 dV c0 t i0 u T x0.5 y0.5/w1 v0 dV c0 t i0 u T Nn1/r2 v0 dV c0 t i0 u T Mw1@/|
-a box holds its edges|box|both|||0|1|n1 x1 y1/|
+a box holds its edges|--read-opl a --bounding-box left=0 right=1 bottom=0 top=1 --write-opl b|both|||0|1|n1 x1 y1/|
 0|9|ended||n1 v0 dV c0 t i0 u T x1 y1/|
-a node behind a way is out of order|box|both|||0|1|n1 x0 y0/w1 Nn1/n2 x0 y0/|
+a node behind a way is out of order|--read-opl a --bounding-box left=0 right=1 bottom=0 top=1 --write-opl b|both|||0|1|n1 x0 y0/w1 Nn1/n2 x0 y0/|
 4|25|ended|task 1 input 0 item 3: out of order|n1 v0 dV c0 t i0 u T x0 y0/w1 v0 dV c0 t i0 u T Nn1/|
-nothing of a held input out of order is given|complete|both|||0|1|n1 x0 y0/w1 Nn1/n2 x0 y0/|
+nothing of a held input out of order is given|--read-opl a --bounding-box left=0 right=1 bottom=0 top=1 completeWays=yes --write-opl b|both|||0|1|n1 x0 y0/w1 Nn1/n2 x0 y0/|
 4|25|ended|task 1 input 0 item 3: out of order||
-a polygon file is bad|polygon|both|||0|1|n1 x0.5 y0.5/n2 x2 y2/n3 x3 y3/w1 Nn1,n2/w2 Nn2,n3/r1 Mr2@/r2 Mw1@/|
+a polygon file is bad|--read-opl a --bounding-polygon c --write-opl b|both|||0|1|n1 x0.5 y0.5/n2 x2 y2/n3 x3 y3/w1 Nn1,n2/w2 Nn2,n3/r1 Mr2@/r2 Mw1@/|
 4|none||task 1 line 3: bad polygon|as before|
 ";
 
@@ -178,7 +117,7 @@ a polygon file is bad|polygon|both|||0|1|n1 x0.5 y0.5/n2 x2 y2/n3 x3 y3/w1 Nn1,n
 #[derive(Drop)]
 struct Row<'a> {
     shows: &'a [u8],
-    words: &'static [&'static [u8]],
+    words: &'a [u8],
     pieces: &'static [u32],
     file: &'a [u8],
     fails: Op,
@@ -217,21 +156,14 @@ fn number(digits: &[u8]) -> u64 {
     number
 }
 
-fn words_of(name: &[u8]) -> &'static [&'static [u8]] {
-    if name == b"other".as_slice() {
-        &OTHER
-    } else if name == b"box".as_slice() {
-        &BOX
-    } else if name == b"cascading".as_slice() {
-        &CASCADING
-    } else if name == b"complete".as_slice() {
-        &COMPLETE
-    } else if name == b"clipped".as_slice() {
-        &CLIPPED
-    } else if name == b"polygon".as_slice() {
-        &POLYGON
+/// The words of a column.
+fn words_of(column: &[u8]) -> &[u8] {
+    if column == b"copy".as_slice() {
+        COPY
+    } else if column == b"other".as_slice() {
+        OTHER
     } else {
-        &COPY
+        column
     }
 }
 
@@ -299,10 +231,21 @@ fn text<R: Abort + AllocGlobal>(rt: &R, bytes: &[u8]) -> Text
     Text::from_bytes(rt.alloc(), bytes).expect(rt, "a text")
 }
 
-pub(crate) fn texts_of<R: Abort + AllocGlobal>(rt: &R, words: &[&[u8]]) -> Sequence<Text> {
+/// The words of a text that parts them by blanks.
+pub(crate) fn texts_of<R: Abort + AllocGlobal>(rt: &R, words: &[u8]) -> Sequence<Text> {
     let mut texts = Sequence::new(rt.alloc());
-    for word in words {
-        texts.push(text(rt, word)).expect(rt, "a word");
+    let mut rest = words;
+    for _word in 0..MOST_WORDS {
+        match first_part(rest, b' ') {
+            Some((word, more)) => {
+                texts.push(text(rt, word)).expect(rt, "a word");
+                rest = more;
+            }
+            None => {
+                texts.push(text(rt, rest)).expect(rt, "a word");
+                break;
+            }
+        }
     }
     texts
 }

@@ -4,8 +4,8 @@ use Rattle.osm_tasks.specs.Tasks.{TaskValue}
 use Rattle.osm_run.specs.Commands.{area_at, command_with, plan_of}
 use Rattle.osm_run.specs.Course.{entries}
 use Rattle.osm_run.specs.Opened.{AreOpened, course_at_rest}
-use Rattle.osm_run.specs.Prepared.{RanNoTask}
 use Rattle.osm_run.specs.Went.{DeviceSeen}
+use Rattle.osm_run.specs.WordsRun.{RanNoTask}
 use Rattle.osm_run.proofs.AskedLemmas.{handed_on}
 use Rattle.osm_run.proofs.HeldLemmas.{reads_or_writes}
 use Rattle.osm_run.proofs.OpenFilesLemmas.{devices_for, fresh_devices}
