@@ -1,10 +1,9 @@
 -- What stays while a reader gives items: its source is as it was, and it never has more to read.
-use Rattle.std.proofs.Common.{◌≡◌, ◌<◌, ◌≤◌, ◌++◌, length, refl, sym, ap, ◌∙◌, subst, arith, append-nil}
-use Rattle.osm_entity.specs.declared.verdict.Verdict.{Verdict}
+use Rattle.std.proofs.Common.{◌≡◌, ◌≤◌, ◌++◌, length, refl, sym, ap, ◌∙◌, subst, arith, append-nil}
 use Rattle.osm_opl_line.specs.Line.{LineValue, Skipped, Good, Bad}
 use Rattle.osm_host.specs.Feeds.{verdict_after}
 use Rattle.osm_opl.specs.Reader.{ReaderValue, SameSource}
-use Rattle.osm_opl.specs.Passing.{HasNoLine, SameRest, TakesLine, passed}
+use Rattle.osm_opl.specs.Passing.{HasNoLine, TakesLine, passed}
 use Rattle.osm_opl.specs.Unread.{UnreadValue, unread_bytes}
 
 -- what stays, stays on
@@ -33,32 +32,6 @@ same_line first old mid new value same takes is =
     (subst (SameSource old) (sym (is ∙ ap (passed value) takes.same))
     (same_passed old mid.unread value (omega (arith, takes.shorter))))
 
--- a reader that passed a line reads nothing of what is behind it
-passed-unread : (value : LineValue) (r : ReaderValue) → (passed value r).unread ≡ r.unread
-passed-unread Skipped r = refl
-passed-unread (Good item) r = refl
-passed-unread (Bad cause) r = refl
-
--- a reader that passed a line has less to read
-pub falls_line : (first old mid new : ReaderValue) (value : LineValue) → SameSource first old →
-    TakesLine old mid value → new ≡ passed value mid →
-    length (unread_bytes new.unread) < length (unread_bytes first.unread)
-falls_line first old mid new value same takes is =
-    let unread : new.unread ≡ mid.unread = ap (λ r. r.unread) is ∙ passed-unread value mid in
-    omega (arith, ap (λ u. length (unread_bytes u)) unread, takes.shorter, same.left)
-
--- a reader whose unread bytes moved, and which got a verdict, has its source as it was
-same_moved : (old : ReaderValue) (unread : UnreadValue) (verdict : Verdict) →
-    unread_bytes unread ≡ unread_bytes old.unread →
-    SameSource old (record old { unread = unread; verdict = verdict })
-same_moved old unread verdict same = record {
-  flow = refl;
-  limit = refl;
-  given = refl;
-  feed = refl;
-  left = omega (arith, ap length same);
-}
-
 -- a reader without a line left holds all that is unread
 pub held_all : (old mid : ReaderValue) → HasNoLine old mid → unread_bytes mid.unread ≡ unread_bytes old.unread
 held_all old mid last =
@@ -73,17 +46,3 @@ pub settled_is : (old mid new : ReaderValue) → HasNoLine old mid →
     new ≡ record mid { verdict = verdict_after mid.feed } →
     new ≡ record old { unread = mid.unread; verdict = verdict_after old.feed }
 settled_is old mid new last is = is ∙ ap settled last.same
-
--- a reader without a line left has its source as it was
-pub same_settled : (first old mid new : ReaderValue) → SameSource first old → HasNoLine old mid →
-    new ≡ record mid { verdict = verdict_after mid.feed } → SameSource first new
-same_settled first old mid new same last is =
-    same_more first old new same
-    (subst (SameSource old) (sym (settled_is old mid new last is))
-    (same_moved old mid.unread (verdict_after old.feed) (held_all old mid last)))
-
--- a reader that read no byte has its source as it was
-pub same_rest : (first old new : ReaderValue) → SameSource first old → SameRest old new → SameSource first new
-same_rest first old new same rest =
-    same_more first old new same
-    (subst (SameSource old) (sym rest.same) (same_moved old new.unread old.verdict rest.rest))

@@ -1,6 +1,6 @@
 -- How a reader's standing is kept while it gives items.
 use Rattle.std.proofs.Common.{◌≡◌, ℕ, ◌+◌, List, [], ◌∷◌, ◌++◌, length, take, Bool, true, false, refl, sym, ap, ◌∙◌, subst, arith, append_assoc, append-nil, inl, inr}
-use Rattle.std.specs.Prelude.{◌-◌, ◌⊎◌, Some, None, OnErr, Ok, Err, nat_lt}
+use Rattle.std.specs.Prelude.{◌-◌, ◌⊎◌, OnErr, Ok, Err, nat_lt}
 use Rattle.std.specs.declared.result.Result.{Result}
 use Rattle.std.proofs.lemmas.Bool.{cond_both, ltb-false, ltb-true}
 use Rattle.std.proofs.lemmas.List.{take_all, take-append-le}
@@ -21,7 +21,7 @@ use Rattle.osm_host.specs.Feeds.{MayCome, reached_end, verdict_after}
 use Rattle.osm_host.specs.declared.feed.Feed.TheVariants.{Open}
 use Rattle.osm_host.proofs.FeedLemmas.{may_end, take-limit, verdict_settled}
 use Rattle.osm_opl.specs.Reader.{ReaderValue, WantsPull}
-use Rattle.osm_opl.specs.Passing.{HasNoLine, SameRest, TakesLine, is_bad, item_in, passed}
+use Rattle.osm_opl.specs.Passing.{HasNoLine, SameRest, TakesLine, is_bad, passed}
 use Rattle.osm_opl.specs.Standing.{GaveItems, Stands, reading_from, reader_reading}
 use Rattle.osm_opl.specs.Unread.{UnreadValue, HasNoNewline, unread_bytes}
 use Rattle.osm_opl.proofs.KeepingLemmas.{held_all, settled_is}
@@ -183,18 +183,6 @@ gave_more old mid new first more one two = λ bytes came items s.
     subst (λ all. Stands new bytes came all) (append_assoc items first more)
     (two bytes came (items ++ first) (one bytes came items s))
 
--- a line that says an item says that one
-pub items_in-some : (value : LineValue) (item : ItemValue) → Some item ≡ item_in value → items_in value ≡ item ∷ []
-items_in-some Skipped item is = cc
-items_in-some (Good said) item is = cc
-items_in-some (Bad cause) item is = cc
-
--- a line that says no item
-pub items_in-none : (value : LineValue) → None ≡ item_in value → items_in value ≡ []
-items_in-none Skipped is = refl
-items_in-none (Good said) is = cc
-items_in-none (Bad cause) is = refl
-
 -- a reader that passed a line after others without an item gave its items
 pub gave_line : (first old mid new : ReaderValue) (value : LineValue) (items : List ItemValue) →
     old.verdict ≡ Running → GaveItems first old [] → TakesLine old mid value → new ≡ passed value mid →
@@ -203,18 +191,6 @@ gave_line first old mid new value items run gave takes is says =
     gave_more first old new [] items gave
     (subst (λ r. GaveItems old r items) (sym is)
     (subst (λ more. GaveItems old (passed value mid) more) says (gave_passed old mid value run takes)))
-
--- a reader that passed a line with an item runs on
-pub runs_line : (old mid new : ReaderValue) (value : LineValue) (item : ItemValue) → old.verdict ≡ Running →
-    TakesLine old mid value → new ≡ passed value mid → Some item ≡ item_in value → new.verdict ≡ Running
-runs_line old mid new value item run takes is says =
-    ap (λ r. r.verdict) is ∙ passed-runs value mid item says ∙ ap (λ r. r.verdict) takes.same ∙ run
-  where
-    passed-runs : (value : LineValue) (r : ReaderValue) (item : ItemValue) → Some item ≡ item_in value →
-        (passed value r).verdict ≡ r.verdict
-    passed-runs Skipped r item says = cc
-    passed-runs (Good said) r item says = refl
-    passed-runs (Bad cause) r item says = cc
 
 -- a verdict is running or not
 pub runs_or_not : (verdict : Verdict) → (verdict ≡ Running) ⊎ (verdict ≡ Running → ⊥)

@@ -1,9 +1,9 @@
 -- Lemmas on unread bytes: parts of a buffer, and the line with which a piece begins.
-use Rattle.std.proofs.Common.{◌≡◌, ℕ, ◌+◌, ◌-◌, ◌<◌, ◌≤◌, List, [], ◌∷◌, ◌++◌, length, take, drop, Bool, false, refl, sym, ap, ◌∙◌, subst, arith, append_assoc}
+use Rattle.std.proofs.Common.{◌≡◌, ℕ, ◌+◌, ◌-◌, ◌<◌, ◌≤◌, List, [], ◌∷◌, ◌++◌, length, take, drop, Bool, false, refl, sym, ap, ◌∙◌, subst, arith, append_assoc, append-nil, inl, inr}
 use Rattle.std.specs.Prelude.{◌==◌, All, Option, min}
 use Rattle.std.specs.List.{slice_split, onto_first, join_with_byte}
 use Rattle.std.proofs.lemmas.Bool.{cond_both}
-use Rattle.std.proofs.lemmas.List.{length-append, length-take, length-take-le, take-take, take_at, take_min, drop_at, drop-drop, drop-take}
+use Rattle.std.proofs.lemmas.List.{length-append, length-take, length-take-le, take-take, take_at, take_min, drop_all, drop_at, drop-drop, drop-take}
 use Rattle.std.proofs.lemmas.List.Elements.{All-nil, All-cons, All-append}
 use Rattle.std.proofs.lemmas.List.Splits.{length-slice_split, join_with_byte-slice_split}
 use Rattle.std.proofs.lemmas.Bool.{lt-ltb}
@@ -12,9 +12,8 @@ use Rattle.std.specs.Io.KnownBytes.{prepend_known}
 use Rattle.osm_entity.specs.declared.kind.Flow.{Flow}
 use Rattle.osm_entity.specs.declared.verdict.Cause.TheVariants.{LineTooLong}
 use Rattle.osm_opl_line.specs.Line.{Bad, longest_line, opl_line}
-use Rattle.osm_opl_line.specs.declared.reading.LineRead.TheVariants.{Bad as ReadBad}
-use Rattle.osm_opl.specs.Found.{Filled, TookLine}
-use Rattle.osm_opl.specs.Unread.{UnreadValue, HasNoNewline, IsUnread, EndsAt, unread_bytes}
+use Rattle.osm_opl.specs.Found.{Filled, HasLine, LongLine}
+use Rattle.osm_opl.specs.Unread.{UnreadValue, HasNoNewline, IsUnread, EndsAt, first_line, unread_bytes}
 
 -- unread bytes are their two lists
 pub same_unread : (a b : UnreadValue) → a.held ≡ b.held → a.piece ≡ b.piece → a ≡ b
@@ -115,19 +114,51 @@ pub opl_line-long : (flow : Flow) (line : List ℕ) → longest_line < length li
 unfolding opl_line
 opl_line-long flow line long = rw (lt-ltb longest_line (length line) long) refl
 
--- a line of too many bytes, part of which was held, came off
-pub long_line : (flow : Flow) (u new : UnreadValue) (count : ℕ) → IsUnread u → EndsAt u.piece count →
-    longest_line < length u.held + count → new ≡ record { held = []; piece = drop (count + 1) u.piece } →
-    TookLine flow u new (ReadBad LineTooLong)
-long_line flow u new count kept ends long is =
-    let size : length (u.held ++ take count u.piece) ≡ length u.held + count =
-    omega (arith, length-append u.held (take count u.piece), length-take-le count u.piece (omega (arith, ends.within)))
-    in record {
-      line = u.held ++ take count u.piece;
-      unended = All-append (λ b. (b == 10) ≡ false) u.held (take count u.piece) kept.unended ends.unended;
-      cut = cut_joined u count ends ∙ ap (λ rest. (u.held ++ take count u.piece) ++ 10 ∷ rest) (sym
-          (ap unread_bytes is));
-      says = sym (opl_line-long flow (u.held ++ take count u.piece) (omega (arith, size, long)));
+-- a line of too many bytes, part of which is held, stands first
+pub long_line : (u : UnreadValue) (count : ℕ) → IsUnread u → EndsAt u.piece count →
+    longest_line < length u.held + count → LongLine u (count + 1)
+long_line u count kept ends long = record {
+  line = first_line u count;
+  unended = All-append (λ b. (b == 10) ≡ false) u.held (take count u.piece) kept.unended ends.unended;
+  long = omega (
+    arith,
+    long,
+    length-append u.held (take count u.piece),
+    length-take-le count u.piece (omega (arith, ends.within)),
+  );
+  fits = omega (arith, ends.within);
+  cut = inl (cut_joined u count ends);
+}
+
+-- bytes that end no line and are too many for one
+pub long_rest : (u : UnreadValue) (count : ℕ) → IsUnread u → HasNoNewline u.piece → count ≡ length u.piece →
+    longest_line < length u.held + count → LongLine u count
+long_rest u count kept free all long = record {
+  line = unread_bytes u;
+  unended = All-append (λ b. (b == 10) ≡ false) u.held u.piece kept.unended free;
+  long = omega (arith, long, all, length-append u.held u.piece);
+  fits = omega (arith, all);
+  cut = inr (refl, drop_all count u.piece (omega (arith, all)));
+}
+
+-- a line that is held as a whole stands first
+pub has_joined : (u new : UnreadValue) (count : ℕ) → IsUnread u → EndsAt u.piece count →
+    new ≡ record { held = u.held ++ take count u.piece; piece = drop count u.piece } → HasLine u new 0 1
+has_joined u new count kept ends is =
+    let behind : drop count u.piece ≡ 10 ∷ drop (count + 1) u.piece =
+    ap (drop count) ends.cut
+    ∙ drop_at (take count u.piece) (10 ∷ drop (count + 1) u.piece) count
+    (length-take-le count u.piece (omega (arith, ends.within))) in
+    let line : new.held ≡ first_line u count = ap (λ v. v.held) is in
+    let piece : new.piece ≡ 10 ∷ drop (count + 1) u.piece = ap (λ v. v.piece) is ∙ behind in
+    record {
+      kept = rw (line, piece) (sym (cut_joined u count ends));
+      apart = λ _. refl;
+      within = omega arith;
+      fits = omega (arith, ap length piece);
+      unended = subst HasNoNewline (sym (append-nil new.held ∙ line))
+          (All-append (λ b. (b == 10) ≡ false) u.held (take count u.piece) kept.unended ends.unended);
+      cut = rw (piece, append-nil new.held) refl;
     }
 
 -- the first of some bytes, up to a count and a room for them

@@ -1,6 +1,6 @@
 -- The bytes that were pulled and not read yet.
 -- Here they are two lists; the code keeps the second where a pull put it.
-use Rattle.std.specs.Prelude.{◌≡◌, ℕ, ◌+◌, ◌≤◌, ◌<◌, List, ◌∷◌, ◌++◌, length, take, drop, false, ◌==◌, All}
+use Rattle.std.specs.Prelude.{◌≡◌, ℕ, ◌+◌, ◌≤◌, ◌<◌, List, [], ◌∷◌, ◌++◌, length, take, drop, false, ◌==◌, All}
 use Rattle.osm_entity.specs.Ascii.{newline}
 use Rattle.osm_opl_line.specs.Line.{longest_line}
 
@@ -16,6 +16,14 @@ pub record UnreadValue : Type 0 where
 -- all bytes that were pulled and not read yet
 abbrev pub unread_bytes : UnreadValue → List ℕ
 unread_bytes u = u.held ++ u.piece
+
+-- the line that is what is held and these first bytes of the piece
+abbrev pub first_line : UnreadValue → ℕ → List ℕ
+first_line u count = u.held ++ take count u.piece
+
+-- what is unread behind what is held and the first bytes of the piece
+abbrev pub left_past : UnreadValue → ℕ → UnreadValue
+left_past u past = record { held = []; piece = drop past u.piece }
 
 -- what is held ends no line, and isn't too long for one
 pub record IsUnread (u : UnreadValue) : Type 0 where

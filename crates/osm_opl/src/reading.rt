@@ -1,20 +1,20 @@
 //! Reads the items of an OPL file, pull by pull.
-ghost use Rattle.std.specs.Prelude.{◌≡◌, ℕ, ◌+◌, ◌≤◌, ◌<◌, ◌∷◌, [], length, false, IfOk, IfNone, IfSome, OnOk, OnErr, IsOk, IsTrue, ◌↔◌};
+ghost use Rattle.std.specs.Prelude.{◌≡◌, ◌≢◌, ◌+◌, ◌≤◌, ◌<◌, ◌∷◌, [], length, true, false, IfOk, IfNone, IfSome, OnOk, OnErr, IsOk, IsTrue, ◌↔◌};
 ghost use Rattle.osm_entity.specs.declared.verdict.Verdict.TheVariants.{Running};
-ghost use Rattle.osm_opl_line.specs.Seen.{line_seen};
 ghost use Rattle.osm_host.specs.Feeds.{reached_end, verdict_after};
 ghost use Rattle.osm_host.specs.Pulls.{PulledOnce, piece_size, source_value};
 ghost use Rattle.osm_host.specs.declared.feed.Feed.TheVariants.{Open, Failed};
-ghost use Rattle.osm_opl_line.specs.Line.{longest_line};
+ghost use Rattle.osm_opl_line.specs.Line.{Bad, longest_line};
+ghost use Rattle.osm_opl_line.specs.Reading.{is_line};
 ghost use Rattle.osm_opl.specs.Reader.{CanPull, IsReader, SameSource, WantsPull, fed};
-ghost use Rattle.osm_opl.specs.Passing.{HasNoLine, SameRest, TakesLine, item_in, passed};
+ghost use Rattle.osm_opl.specs.Passing.{FindsIn, SameRest, passed, unread_past};
 ghost use Rattle.osm_opl.specs.Standing.{GaveItems, Stands};
-ghost use Rattle.osm_opl.specs.Unread.{IsUnread, unread_bytes};
+ghost use Rattle.osm_opl.specs.Unread.{IsUnread, unread_bytes, left_past};
 
 use crate::unread::{Found, Unread};
 use osm_entity::{Cause, Flow, Item, NoMemory, Spot, Verdict};
 use osm_host::{Feed, HostError, Source};
-use osm_opl_line::LineRead;
+use osm_opl_line::{LineRead, read_line};
 use std::alloc::Global;
 use std::marker::Model;
 
@@ -154,13 +154,19 @@ impl OplReader {
         ensures same { SameSource self.old self.new }
     {
         while self.is_running() {
-            match self.take_line()? {
-                Some(read) => {
-                    if let Some(item) = self.pass(read) {
-                        return Ok(Some(item));
+            match self.find_line()? {
+                Found::Line(count, past) => {
+                    match read_line(self.alloc, self.unread.line(count), self.flow)? {
+                        LineRead::Item(item) => {
+                            self.pass(past);
+                            return Ok(Some(item));
+                        }
+                        LineRead::Skipped => self.pass(past),
+                        LineRead::Bad(cause) => self.fail(past, cause),
                     }
                 }
-                None => {
+                Found::TooLong(past) => self.fail(past, Cause::LineTooLong),
+                Found::Unfinished => {
                     self.settle();
                     return Ok(None);
                 }
@@ -177,57 +183,58 @@ impl OplReader {
         matches!(self.verdict, Verdict::Running)
     }
 
-    // Takes the next line off; `None` where there is none. At `Err` nothing was read.
-    fn take_line(&mut self) -> Result<Option<LineRead>, NoMemory>
-        ensures some { IfOk result (λ found. IfSome found
-            (λ read. TakesLine self.old self.new (line_seen read))) }
-        ensures none { IfOk result (λ found. IfNone found (HasNoLine self.old self.new)) }
+    // Finds the next line, where there is one. Nothing is read.
+    fn find_line(&mut self) -> Result<Found, NoMemory>
+        ensures found { IfOk result (λ found. FindsIn self.old self.new found) }
         ensures err { OnErr result (SameRest self.old self.new) }
     {
-        match self.unread.take_line(self.alloc, self.flow)? {
-            Found::Line(read) => Ok(Some(read)),
-            Found::TooLong => Ok(Some(LineRead::Bad(Cause::LineTooLong))),
-            Found::Unfinished => self.take_last(),
+        match self.unread.find_line()? {
+            Found::Line(count, past) => Ok(Found::Line(count, past)),
+            Found::TooLong(past) => Ok(Found::TooLong(past)),
+            Found::Unfinished => {
+                if self.has_last() {
+                    return Ok(Found::Line(0, 0));
+                }
+                Ok(Found::Unfinished)
+            }
         }
     }
 
-    // Takes off what is left at the end of the source.
-    fn take_last(&mut self) -> Result<Option<LineRead>, NoMemory>
-        requires passed { self.old.unread.piece ≡ [] }
-        requires holds { IsUnread self.old.unread }
-        ensures some { IfOk result (λ found. IfSome found
-            (λ read. TakesLine self.old self.new (line_seen read))) }
-        ensures none { IfOk result (λ found. IfNone found (HasNoLine self.old self.new)) }
-        ensures err { OnErr result (SameRest self.old self.new) }
+    // Whether what is left is the last line of the source.
+    fn has_last(&self) -> bool
+        ensures ended { IsTrue result → reached_end self.now.feed ≡ true }
+        ensures some { IsTrue result → unread_bytes self.now.unread ≢ [] }
+        ensures none { result ≡ false → self.now.unread.piece ≡ [] → IsUnread self.now.unread →
+            is_line (reached_end self.now.feed) self.now.unread.held ≡ false }
     {
-        if !self.feed.reached_end() || self.unread.is_empty() {
-            return Ok(None);
-        }
-        Ok(Some(self.unread.take_held(self.alloc, self.flow)?))
+        self.feed.reached_end() && !self.unread.is_empty()
     }
 
-    // Counts the line that came off, and gives its item; a bad one ends the reading.
-    fn pass(&mut self, read: LineRead) -> Option<Item>
-        requires limited { self.old.lines + length (unread_bytes self.old.unread) < self.old.limit }
-        requires counted { self.old.lines + length (unread_bytes self.old.unread) < self.old.given }
-        ensures item { result ≡ item_in (line_seen read) }
-        ensures passed { self.new ≡ passed (line_seen read) self.old }
+    // Passes over a line, which is counted.
+    fn pass(&mut self, past: usize)
+        requires within { past ≤ length self.old.unread.piece }
+        requires limited { self.old.lines + length (unread_bytes (left_past self.old.unread past))
+            < self.old.limit }
+        requires counted { self.old.lines + length (unread_bytes (left_past self.old.unread past))
+            < self.old.given }
+        ensures { self.new ≡ record (unread_past self.old past) { lines = self.old.lines + 1 } }
     {
-        match read {
-            LineRead::Skipped => {
-                self.lines += 1;
-                None
-            }
-            LineRead::Item(item) => {
-                self.lines += 1;
-                Some(item)
-            }
-            LineRead::Bad(cause) => {
-                let spot = Spot::Line(self.lines + 1);
-                self.verdict = Verdict::Input { cause, spot };
-                None
-            }
-        }
+        self.unread.pass_over(past);
+        self.lines += 1;
+    }
+
+    // Passes over a bad line, which ends the reading.
+    fn fail(&mut self, past: usize, cause: Cause)
+        requires within { past ≤ length self.old.unread.piece }
+        requires limited { self.old.lines + length (unread_bytes (left_past self.old.unread past))
+            < self.old.limit }
+        requires counted { self.old.lines + length (unread_bytes (left_past self.old.unread past))
+            < self.old.given }
+        ensures { self.new ≡ passed (Bad cause) (unread_past self.old past) }
+    {
+        self.unread.pass_over(past);
+        let spot = Spot::Line(self.lines + 1);
+        self.verdict = Verdict::Input { cause, spot };
     }
 
     // Reaches the verdict of a reader without a line left.

@@ -10,14 +10,12 @@ ghost use Rattle.osm_host.specs.Contents.{PullGives};
 ghost use Rattle.osm_host.specs.Counts.{raised, CountsFailure, CountsRefusal};
 ghost use Rattle.osm_host.specs.Pulls.{piece_size};
 ghost use Rattle.osm_host.specs.declared.outside.HostError.TheVariants.{Failed, Memory};
-ghost use Rattle.osm_opl_line.specs.Line.{longest_line, opl_line};
-ghost use Rattle.osm_opl_line.specs.Seen.{line_seen};
-ghost use Rattle.osm_opl.specs.Unread.{EndsAt, HasNoNewline, IsUnread, UnreadValue, unread_bytes};
-ghost use Rattle.osm_opl.specs.Found.{Filled, FoundIn, TookLine};
+ghost use Rattle.osm_opl_line.specs.Line.{longest_line};
+ghost use Rattle.osm_opl.specs.Unread.{EndsAt, HasNoNewline, IsUnread, UnreadValue, first_line, unread_bytes, left_past};
+ghost use Rattle.osm_opl.specs.Found.{Filled, FoundIn};
 
-use osm_entity::{Bytes, Cause, Flow, NoMemory};
+use osm_entity::{Bytes, NoMemory};
 use osm_host::{Failed as PullFailed, HostError, PIECE_SIZE, Source};
-use osm_opl_line::{LineRead, read_line};
 use osm_text::first_part;
 use std::alloc::Global;
 use std::marker::Model;
@@ -26,12 +24,14 @@ use std::marker::Model;
 const LONGEST_LINE: usize = 16_777_216;
 
 /// What the unread bytes begin with.
-#[derive(Drop)]
+#[derive(Clone, Copy)]
 pub(crate) enum Found {
-    /// A line, which says this.
-    Line(LineRead),
-    /// A line that isn't at its end, and that is too long already.
-    TooLong,
+    /// A line: what is held, or that many bytes of the piece where nothing is held. With its
+    /// newline it takes so many bytes of the piece.
+    Line(usize, usize),
+    /// A line that is too long, whether it is at its end or not. It takes so many bytes of the
+    /// piece.
+    TooLong(usize),
     /// A line that isn't at its end, or nothing.
     Unfinished,
 }
@@ -182,26 +182,28 @@ impl Unread {
         }
     }
 
-    /// Takes the first line off. At `Err` it has the same bytes.
-    pub(crate) fn take_line(&mut self, alloc: Global, flow: Flow) -> Result<Found, NoMemory>
-        ensures found { IfOk result (λ found. FoundIn flow self.old self.new found) }
-        ensures err { OnErr result (unread_bytes self.new ≡ unread_bytes self.old) }
+    /// Finds the first line. At `Err` it is as it was.
+    pub(crate) fn find_line(&mut self) -> Result<Found, NoMemory>
+        ensures found { IfOk result (λ found. FoundIn self.old self.new found) }
+        ensures err { OnErr result (self.new ≡ self.old) }
     {
         match self.line_length() {
-            Some(count) => Ok(Found::Line(self.take_whole(alloc, flow, count)?)),
-            None => self.take_unfinished(),
+            Some(count) => self.find_whole(count),
+            None => self.find_unfinished(),
         }
     }
 
-    /// Takes off what is held as a line. At `Err` it has the same bytes.
-    pub(crate) fn take_held(&mut self, alloc: Global, flow: Flow) -> Result<LineRead, NoMemory>
-        ensures says { IfOk result (λ read. line_seen read ≡ opl_line flow self.old.held) }
-        ensures ok { OnOk result (self.new ≡ record { held = []; piece = self.old.piece }) }
-        ensures err { OnErr result (self.new ≡ self.old) }
+    /// The first line: what is held, or the first `count` bytes of the piece.
+    pub(crate) fn line(&self, count: usize) -> &[u8]
+        requires within { count ≤ length self.now.piece }
+        requires apart { self.now.held ≢ [] → count ≡ 0 }
+        ensures { result.now ≡ first_line self.now count }
     {
-        let read = read_line(alloc, self.held.as_slice(), flow)?;
-        self.pass_over(0);
-        Ok(read)
+        if self.held.len() == 0 {
+            &self.buffer[self.start..self.start + count]
+        } else {
+            self.held.as_slice()
+        }
     }
 
     // How many bytes of the piece stand before its first newline.
@@ -215,60 +217,32 @@ impl Unread {
         }
     }
 
-    // Takes off a line whose newline stands in the piece behind `count` bytes.
-    fn take_whole(&mut self, alloc: Global, flow: Flow, count: usize) -> Result<LineRead, NoMemory>
+    // Finds a line whose newline stands in the piece behind `count` bytes. One that began in
+    // earlier pieces is held as a whole.
+    fn find_whole(&mut self, count: usize) -> Result<Found, NoMemory>
         requires { EndsAt self.old.piece count }
-        ensures ok { IfOk result (λ read. TookLine flow self.old self.new read) }
-        ensures err { OnErr result (unread_bytes self.new ≡ unread_bytes self.old) }
+        ensures found { IfOk result (λ found. FoundIn self.old self.new found) }
+        ensures err { OnErr result (self.new ≡ self.old) }
     {
         if self.held.len() + count > LONGEST_LINE {
-            self.pass_over(count + 1);
-            return Ok(LineRead::Bad(Cause::LineTooLong));
+            return Ok(Found::TooLong(count + 1));
         }
         if self.held.len() == 0 {
-            self.take_direct(alloc, flow, count)
-        } else {
-            self.take_joined(alloc, flow, count)
+            return Ok(Found::Line(count, count + 1));
         }
-    }
-
-    // Takes off a line that lies whole in the piece.
-    fn take_direct(&mut self, alloc: Global, flow: Flow, count: usize) -> Result<LineRead, NoMemory>
-        requires ends { EndsAt self.old.piece count }
-        requires whole { self.old.held ≡ [] }
-        ensures ok { IfOk result (λ read. TookLine flow self.old self.new read) }
-        ensures err { OnErr result (unread_bytes self.new ≡ unread_bytes self.old) }
-    {
-        let line = &self.buffer[self.start..self.start + count];
-        let read = read_line(alloc, line, flow)?;
-        self.pass_over(count + 1);
-        Ok(read)
-    }
-
-    // Takes off a line that began in earlier pieces.
-    fn take_joined(&mut self, alloc: Global, flow: Flow, count: usize) -> Result<LineRead, NoMemory>
-        requires ends { EndsAt self.old.piece count }
-        requires short { length self.old.held + count ≤ longest_line }
-        ensures ok { IfOk result (λ read. TookLine flow self.old self.new read) }
-        ensures err { OnErr result (unread_bytes self.new ≡ unread_bytes self.old) }
-    {
         self.hold(count)?;
-        let read = read_line(alloc, self.held.as_slice(), flow)?;
-        self.pass_over(1);
-        Ok(read)
+        Ok(Found::Line(0, 1))
     }
 
-    // Holds the piece, which ends no line, or drops all where that is too much for a line.
-    fn take_unfinished(&mut self) -> Result<Found, NoMemory>
+    // Holds the piece, which ends no line, unless that is too much for a line.
+    fn find_unfinished(&mut self) -> Result<Found, NoMemory>
         requires { HasNoNewline self.old.piece }
-        ensures found { (flow : Flow) →
-            IfOk result (λ found. FoundIn flow self.old self.new found) }
+        ensures found { IfOk result (λ found. FoundIn self.old self.new found) }
         ensures err { OnErr result (self.new ≡ self.old) }
     {
         let count = self.stop - self.start;
         if self.held.len() + count > LONGEST_LINE {
-            self.pass_over(count);
-            return Ok(Found::TooLong);
+            return Ok(Found::TooLong(count));
         }
         self.hold(count)?;
         Ok(Found::Unfinished)
@@ -291,10 +265,10 @@ impl Unread {
         Ok(())
     }
 
-    // Drops what is held, and the first `count` bytes of the piece.
-    fn pass_over(&mut self, count: usize)
+    /// Drops what is held, and the first `count` bytes of the piece.
+    pub(crate) fn pass_over(&mut self, count: usize)
         requires { count ≤ length self.old.piece }
-        ensures { self.new ≡ record { held = []; piece = drop count self.old.piece } }
+        ensures { self.new ≡ left_past self.old count }
     {
         self.held.truncate(0);
         self.start += count;
