@@ -1,14 +1,14 @@
 -- What is wrong with the bytes of a line, from the marks of compared lanes.
-use Rattle.std.proofs.Common.{◌≡◌, ◌∙◌, ℕ, ◌+◌, ◌%◌, ◌^◌, ◌<◌, ◌≤◌, Bool, true, false, List, length, get_or, map, eqb, None, Some, Fits, w8, refl, sym, ap, arith, inl, inr}
+use Rattle.std.proofs.Common.{◌≡◌, ◌∙◌, ℕ, zero, suc, ◌+◌, ◌%◌, ◌^◌, ◌<◌, ◌≤◌, Bool, true, false, List, length, take, drop, get_or, map, eqb, None, Some, Fits, w8, refl, sym, ap, subst, arith, inl, inr}
 use Rattle.std.specs.Prelude.{if◌then◌else◌, ◌||◌, not}
 use Rattle.std.specs.List.{list_any}
-use Rattle.std.specs.Str.{is_utf8}
+use Rattle.std.specs.Str.{IsCharBoundary, IsUtf8, is_utf8}
 use Rattle.std.proofs.lemmas.Bool.{agree_below, agree_below_at, and_parts, cases_lt, eqb-true, ltb-true, not-true}
-use Rattle.std.proofs.lemmas.List.{length-map, get_or_past}
+use Rattle.std.proofs.lemmas.List.{length-drop, length-map, length-take-le, get_or-drop, get_or-take, get_or_past, take-append-drop}
 use Rattle.std.proofs.lemmas.List.Elements.{All-from_get_or}
-use Rattle.std.proofs.lemmas.List.Folds.{list_any_none}
+use Rattle.std.proofs.lemmas.List.Folds.{list_any-append, list_any_none}
 use Rattle.std.proofs.lemmas.Simd.{map-map, mask_l-mod, length-chunk, none_from_empty_mask}
-use Rattle.std.proofs.lemmas.Str.{IsUtf8-from_ascii, is_utf8-from_IsUtf8}
+use Rattle.std.proofs.lemmas.Str.{IsCharBoundary-after_ascii, IsCharBoundary-before_ascii, IsCharBoundary-end, IsCharBoundary-start, IsUtf8-append, IsUtf8-drop, IsUtf8-from_ascii, IsUtf8-from_is_utf8, IsUtf8-take, is_utf8-from_IsUtf8}
 use lib.Lanes.{chunk, mask_l, top}
 use Rattle.osm_entity.specs.declared.verdict.Cause.{Cause}
 use Rattle.osm_entity.specs.declared.verdict.Cause.TheVariants.{BadText, BadField}
@@ -37,24 +37,124 @@ pub plain-covered : (line : List ℕ) (seen from end : ℕ) → from ≤ seen �
 plain-covered line seen from end before front back k low below =
     elim (cases_lt k seen) [ inl early ↦ front k low early | inr late ↦ back k (omega arith) below ]
 
+-- a plain byte is ASCII
+plain-ascii : (b : ℕ) → is_plain_byte b ≡ true → b < 128
+plain-ascii b plain = ltb-true b 128 (and_parts (not (is_control b)) _ plain).1
+
+-- bytes that are plain from the first to the last
+abbrev AllPlain : List ℕ → Type 0
+AllPlain bytes = ArePlain bytes 0 (length bytes)
+
 -- a place past the end has the byte 0
-ascii-at : (line : List ℕ) (k : ℕ) → ArePlain line 0 (length line) → get_or line k 0 < 128
-ascii-at line k plain =
-    elim (cases_lt k (length line)) [
-      | inl within ↦
-          ltb-true (get_or line k 0) 128 (and_parts (not (is_control (get_or line k 0))) _ (plain k (omega arith) within)).1
-      | inr past ↦ rw (get_or_past line k 0 past) (omega arith)
+ascii-at : (bytes : List ℕ) (k : ℕ) → AllPlain bytes → get_or bytes k 0 < 128
+ascii-at bytes k plain =
+    elim (cases_lt k (length bytes)) [
+      | inl within ↦ plain-ascii (get_or bytes k 0) (plain k (omega arith) within)
+      | inr past ↦ rw (get_or_past bytes k 0 past) (omega arith)
     ]
 
--- plain bytes have no fault
-pub fault-plain : (line : List ℕ) → ArePlain line 0 (length line) → None ≡ byte_fault line
-fault-plain line plain =
-    let text : is_utf8 line ≡ true = is_utf8-from_IsUtf8 line (IsUtf8-from_ascii line (λ k. ascii-at line k plain)) in
-    let free : list_any is_control line ≡ false =
-    list_any_none is_control line (All-from_get_or (λ b. is_control b ≡ false) line 0 (λ k within.
-    not-true (is_control (get_or line k 0)) (and_parts (not (is_control (get_or line k 0))) _
-    (plain k (omega arith) within)).0)) in
+-- plain bytes are UTF-8
+text-plain : (bytes : List ℕ) → AllPlain bytes → IsUtf8 bytes
+text-plain bytes plain = IsUtf8-from_ascii bytes (λ k. ascii-at bytes k plain)
+
+-- and have no control byte
+free-plain : (bytes : List ℕ) → AllPlain bytes → list_any is_control bytes ≡ false
+free-plain bytes plain =
+    list_any_none is_control bytes (All-from_get_or (λ b. is_control b ≡ false) bytes 0 (λ k within.
+    not-true (is_control (get_or bytes k 0)) (and_parts (not (is_control (get_or bytes k 0))) _
+    (plain k (omega arith) within)).0))
+
+-- so they have no fault
+fault-plain : (bytes : List ℕ) → AllPlain bytes → byte_fault bytes ≡ None
+fault-plain bytes plain =
+    rw (is_utf8-from_IsUtf8 bytes (text-plain bytes plain), free-plain bytes plain) refl
+
+-- nor do bytes that are plain up to their end
+pub fault-none : (line : List ℕ) (n : ℕ) → n ≤ length line → ArePlain line 0 n → length (drop n line) ≡ 0 →
+    None ≡ byte_fault line
+fault-none line n fits plain none =
+    sym (fault-plain line (λ k low below. plain k low (omega (arith, below, fits, none, length-drop n line))))
+
+-- the first bytes, if plain, are plain by themselves
+plain-first : (line : List ℕ) (n : ℕ) → n ≤ length line → ArePlain line 0 n → AllPlain (take n line)
+plain-first line n fits plain k low below =
+    let within : k < n = omega (arith, below, length-take-le n line fits) in
+    ap is_plain_byte (get_or-take n line k 0 within) ∙ plain k low within
+
+-- and so are the last
+plain-last : (line : List ℕ) (n : ℕ) → n ≤ length line → ArePlain line n (length line) → AllPlain (drop n line)
+plain-last line n fits plain k low below =
+    ap is_plain_byte (get_or-drop n line k 0)
+    ∙ plain (n + k) (omega arith) (omega (arith, below, length-drop n line))
+
+-- a text may be cut behind a plain byte
+boundary-behind : (line : List ℕ) (n : ℕ) → IsUtf8 line → n ≤ length line → ArePlain line 0 n → IsCharBoundary line n
+boundary-behind line zero text fits plain = IsCharBoundary-start line text
+boundary-behind line (suc n) text fits plain =
+    subst (IsCharBoundary line) (omega arith)
+    (IsCharBoundary-after_ascii line n text (omega (arith, fits))
+    (plain-ascii (get_or line n 0) (plain n (omega arith) (omega arith))))
+
+-- and before one
+boundary-before : (line : List ℕ) (n : ℕ) → n ≤ length line → ArePlain line n (length line) → IsCharBoundary line n
+boundary-before line n fits plain =
+    elim (cases_lt n (length line)) [
+      | inl within ↦
+          IsCharBoundary-before_ascii line n within
+          (plain-ascii (get_or line n 0) (plain n (omega arith) within))
+      | inr past ↦ subst (IsCharBoundary line) (omega (arith, past, fits)) (IsCharBoundary-end line)
+    ]
+
+-- two tests are one, where each is passed if the other is
+same-test : (a b : Bool) → (a ≡ true → b ≡ true) → (b ≡ true → a ≡ true) → a ≡ b
+same-test true b there back = sym (there refl)
+same-test false true there back = back refl
+same-test false false there back = refl
+
+-- two lists are UTF-8 alike, where each is if the other is
+same-text : (xs ys : List ℕ) → (IsUtf8 xs → IsUtf8 ys) → (IsUtf8 ys → IsUtf8 xs) → is_utf8 xs ≡ is_utf8 ys
+same-text xs ys there back =
+    same-test (is_utf8 xs) (is_utf8 ys) (λ is. is_utf8-from_IsUtf8 ys (there (IsUtf8-from_is_utf8 xs is)))
+    (λ is. is_utf8-from_IsUtf8 xs (back (IsUtf8-from_is_utf8 ys is)))
+
+-- bytes behind plain ones have the fault of all
+pub fault-behind : (line : List ℕ) (n : ℕ) → n ≤ length line → ArePlain line 0 n →
+    byte_fault (drop n line) ≡ byte_fault line
+fault-behind line n fits plain =
+    let first = plain-first line n fits plain in
+    let text : is_utf8 (drop n line) ≡ is_utf8 line =
+    same-text (drop n line) line
+    (λ is. subst IsUtf8 (take-append-drop n line)
+    (IsUtf8-append (take n line) (drop n line) (text-plain (take n line) first) is))
+    (λ is. IsUtf8-drop line n is (boundary-behind line n is fits plain)) in
+    let free : list_any is_control (drop n line) ≡ list_any is_control line =
+    sym
+    (ap (list_any is_control) (sym (take-append-drop n line))
+    ∙ list_any-append is_control (take n line) (drop n line)
+    ∙ ap (λ b. b || list_any is_control (drop n line)) (free-plain (take n line) first)) in
     rw (text, free) refl
+
+-- bytes before plain ones have the fault of all
+pub fault-before : (line : List ℕ) (n : ℕ) → n ≤ length line → ArePlain line n (length line) →
+    byte_fault (take n line) ≡ byte_fault line
+fault-before line n fits plain =
+    let last = plain-last line n fits plain in
+    let text : is_utf8 (take n line) ≡ is_utf8 line =
+    same-text (take n line) line
+    (λ is. subst IsUtf8 (take-append-drop n line)
+    (IsUtf8-append (take n line) (drop n line) is (text-plain (drop n line) last)))
+    (λ is. IsUtf8-take line n is (boundary-before line n fits plain)) in
+    let free : list_any is_control (take n line) ≡ list_any is_control line =
+    sym
+    (ap (list_any is_control) (sym (take-append-drop n line))
+    ∙ list_any-append is_control (take n line) (drop n line)
+    ∙ ap (λ b. list_any is_control (take n line) || b) (free-plain (drop n line) last)
+    ∙ or-false (list_any is_control (take n line))) in
+    rw (text, free) refl
+  where
+    or-false : (b : Bool) → (b || false) ≡ b
+    or-false true = refl
+    or-false false = refl
 
 -- the fault of bytes decides what a line says
 decided : (text control : Bool) (said : LineValue) (cause : Cause) →

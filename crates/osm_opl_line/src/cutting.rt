@@ -71,38 +71,67 @@ fn begins_with_hash(line: &[u8]) -> bool
 }
 
 // What is wrong with the bytes of a line. Most lines are ASCII without a control byte but tabs, and
-// need no further look.
+// need no further look, nor do such bytes before and behind the others.
 fn byte_fault(line: &[u8]) -> Option<Cause>
     ensures { result ≡ byte_fault line.now }
 {
-    if is_plain(line) {
+    let rest = &line[plain_length(line)..];
+    if rest.is_empty() {
         return None;
     }
-    if !is_text(line) {
+    rest_fault(&rest[..rough_length(rest)])
+}
+
+// The same, byte after byte.
+fn rest_fault(bytes: &[u8]) -> Option<Cause>
+    ensures { result ≡ byte_fault bytes.now }
+{
+    if !is_text(bytes) {
         return Some(Cause::BadText);
     }
-    if has_control(line) {
+    if has_control(bytes) {
         return Some(Cause::BadField);
     }
     None
 }
 
-// Whether all bytes are ASCII and none is a control byte but a tab. The last look may overlap the one
-// before. A line of fewer than sixteen bytes is left to be looked at in full.
-fn is_plain(line: &[u8]) -> bool
-    ensures { IsTrue result → ArePlain line.now 0 (length line.now) }
+// How many bytes are ASCII and no control bytes but tabs, from the first on, as far as sixteen are
+// looked at at once. The last look may overlap the one before. A line of fewer than sixteen bytes is
+// left to be looked at in full.
+fn plain_length(line: &[u8]) -> usize
+    ensures within { result ≤ length line.now }
+    ensures plain { ArePlain line.now 0 result }
 {
     if line.len() < LANES {
-        return false;
+        return 0;
     }
     let mut at = 0;
     while line.len() - at > LANES {
         if !is_plain_at(line, at) {
-            return false;
+            return at;
         }
         at += LANES;
     }
-    is_plain_at(line, line.len() - LANES)
+    if is_plain_at(line, line.len() - LANES) {
+        return line.len();
+    }
+    at
+}
+
+// How many bytes there are before those that are ASCII and no control bytes but tabs up to the end,
+// as far as sixteen are looked at at once.
+fn rough_length(line: &[u8]) -> usize
+    ensures within { result ≤ length line.now }
+    ensures plain { ArePlain line.now result (length line.now) }
+{
+    let mut end = line.len();
+    while end >= LANES {
+        if !is_plain_at(line, end - LANES) {
+            return end;
+        }
+        end -= LANES;
+    }
+    end
 }
 
 // The same of the sixteen bytes from `at` on.
