@@ -96,8 +96,8 @@ fn rest_fault(bytes: &[u8]) -> Option<Cause>
 }
 
 // How many bytes are ASCII and no control bytes but tabs, from the first on, as far as sixteen are
-// looked at at once. The last look may overlap the one before. A line of fewer than sixteen bytes is
-// left to be looked at in full.
+// looked at at once. The last look may overlap the one before. A line of fewer than sixteen bytes
+// is left to be looked at in full.
 fn plain_length(line: &[u8]) -> usize
     ensures within { result ≤ length line.now }
     ensures plain { ArePlain line.now 0 result }
