@@ -1,6 +1,6 @@
 -- What a weighed content says of the content itself, and how a draft goes on from piece to piece.
 use Rattle.std.proofs.Common.{◌≡◌, ◌∙◌, ℕ, ℤ, Bool, true, false, List, [], ◌∷◌, Option, Some, None, Result, Ok, Err, inl, inr, refl, sym, subst}
-use Rattle.std.specs.Prelude.{◌==◌, ◌⊎◌, if◌then◌else◌, is_some, not}
+use Rattle.std.specs.Prelude.{◌==◌, ◌⊎◌, IfSome, if◌then◌else◌, is_some, not}
 use Rattle.std.specs.Option.{option_or}
 use Rattle.std.specs.Result.{result_err, result_unwrap_or, IsOk}
 use Rattle.std.proofs.lemmas.Bool.{cases_Bool, eqb-true, eqb-false, eq-eqb, ne_eqb}
@@ -43,6 +43,12 @@ pub IsWeighed-from_ok : {T : Type 0} (weight : T → ℕ) (says : Result T Cause
     IsWeighed weight says n
 IsWeighed-from_ok weight (Ok value) n is = record { sound = refl; fine = refl; value = λ absent. cc }
 IsWeighed-from_ok weight (Err cause) n is = cc
+
+-- what was made of a content is its value
+pub made-value : {T : Type 0} (made : Option T) (said : Result T Cause) (absent : T) →
+    IfSome made (λ value. said ≡ Ok value) → IfSome made (λ value. result_unwrap_or said absent ≡ value)
+made-value None said absent is = tt
+made-value (Some value) said absent is = rw is refl
 
 -- a slot of another letter is passed by a piece
 IsSlot-passed : (letter first : ℕ) (whole rest : List (List ℕ)) (earlier content : List ℕ) (slot : Option (List ℕ)) →

@@ -12,6 +12,7 @@ pub mod LineBackLemmas
 pub mod LinePiecesLemmas
 pub mod ListsBackLemmas
 pub mod MadeListLemmas
+pub mod MadeTextLemmas
 pub mod MakingLemmas
 pub mod PartLemmas
 pub mod PieceLemmas

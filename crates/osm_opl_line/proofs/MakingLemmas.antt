@@ -21,7 +21,7 @@ use Rattle.osm_text.specs.Nano.{nano}
 use Rattle.osm_text.specs.Numbers.{are_digits, fitting, has_minus, size_fits, signed, unsigned_part, whole}
 use Rattle.osm_opl_line.specs.Contents.{changeset_in, count_in, degrees_in, tags_in, text_in, within}
 use Rattle.osm_opl_line.specs.Fields.{Fields}
-use Rattle.osm_opl_line.specs.Item.{act_of, body_of, entity_of, is_deleted, item_of, place_of, value_of, version_of}
+use Rattle.osm_opl_line.specs.Item.{act_of, body_of, body_with, entity_of, is_deleted, item_of, place_of, value_of, version_of}
 use Rattle.osm_opl_line.specs.Line.{Bad, Good, is_changes, judged, lacks_degrees, lacks_place}
 use Rattle.osm_opl_line.proofs.KeyLemmas.{tags-named}
 
@@ -110,6 +110,14 @@ judged-good : (f : Fields) → judged f ≡ Good (item_of f) →
 judged-good f good =
     tests-failed (lacks_place f.kind f) (not (is_changes f.flow) && is_deleted f)
     (nat_lt greatest_weight (weight_of (entity_of f))) (item_of f) (item_of f) good
+
+-- what is proper to a kind, by its place or list
+pub body_with-fields : (kind : Kind) (f : Fields) →
+    body_with kind (place_of (value_of None (degrees_in 180) f.x) (value_of None (degrees_in 90) f.y)) f.list
+    ≡ body_of kind f
+body_with-fields OfNode f = refl
+body_with-fields OfWay f = refl
+body_with-fields OfRelation f = refl
 
 -- an entity has the values of fields, whatever its id and time
 pub record IsEntityOf (f : Fields) (e : EntityValue) : Type 0 where

@@ -1,6 +1,6 @@
 -- The fields of a line that is being cut: what was read from them, and how they go on with the pieces to come.
 -- Here a slot is looked up by its letter; the code has a field for each.
-use Rattle.std.specs.Prelude.{ℕ, ℤ, ◌≡◌, ◌≤◌, ◌*◌, ◌==◌, List, [], false, if◌then◌else◌, Option, Some, None, Result, Ok, Err, is_some, length, not, sum_by}
+use Rattle.std.specs.Prelude.{ℕ, ℤ, ◌≡◌, ◌≤◌, ◌*◌, ◌==◌, List, [], false, if◌then◌else◌, Option, Some, None, Result, Ok, Err, IfSome, is_some, length, not, sum_by}
 use Rattle.std.specs.Borrow.{Bor}
 use Rattle.std.specs.Option.{option_map}
 use Rattle.osm_entity.specs.Ascii.{letter_c, letter_d, letter_i, letter_t, letter_u, letter_v, letter_x, letter_y, capital_m, capital_n, capital_t}
@@ -55,6 +55,10 @@ pub record IsRead (draft : Draft) : Type 0 where
   pub tags_weight : draft.tags_weight ≡ sum_by tag_weight (value_of [] tags_in (seen draft.tags))
   pub refs_weight : draft.refs_weight ≡ 32 * length (value_of [] refs_in (seen draft.refs))
   pub members_weight : draft.members_weight ≡ sum_by member_weight (value_of [] members_in (seen draft.members))
+  pub made_user : IfSome draft.made.user (λ text. value_of [] text_in (seen draft.u) ≡ text)
+  pub made_tags : IfSome draft.made.tags (λ list. value_of [] tags_in (seen draft.tags) ≡ list)
+  pub made_refs : IfSome draft.made.refs (λ list. value_of [] refs_in (seen draft.refs) ≡ list)
+  pub made_members : IfSome draft.made.members (λ list. value_of [] members_in (seen draft.members) ≡ list)
   pub user_light : draft.user_weight ≤ 34 * longest_line
   pub tags_light : draft.tags_weight ≤ 34 * longest_line
   pub refs_light : draft.refs_weight ≤ 34 * longest_line

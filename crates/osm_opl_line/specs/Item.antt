@@ -35,6 +35,12 @@ abbrev pub place_of : Option ℤ → Option ℤ → Option Place
 place_of (Some lon) (Some lat) = Some (record { lon = lon; lat = lat })
 place_of lon lat = None
 
+-- what is proper to an entity of this kind, with this place or list
+abbrev pub body_with : Kind → Option Place → Option (List ℕ) → Body
+body_with OfNode place list = Node place
+body_with OfWay place list = Way (value_of [] refs_in list)
+body_with OfRelation place list = Relation (value_of [] members_in list)
+
 -- what is proper to an entity of this kind
 abbrev pub body_of : Kind → Fields → Body
 body_of OfNode f = Node (place_of (value_of None (degrees_in 180) f.x) (value_of None (degrees_in 90) f.y))

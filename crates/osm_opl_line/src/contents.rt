@@ -1,14 +1,33 @@
-//! Reads the contents of fields: numbers by their values, and texts by what they weigh. Nothing is
-//! copied.
-ghost use Rattle.std.specs.Prelude.{◌≡◌, ◌≤◌, ◌*◌, IfOk, length, nat_abs, nat_le};
+//! Reads the contents of fields: numbers by their values, and texts by what they weigh or as texts.
+ghost use Rattle.std.specs.Prelude.{◌≡◌, ◌≤◌, ◌*◌, Err, IfOk, IsUtf8, Ok, length, nat_abs, nat_le};
 ghost use Rattle.osm_entity.specs.Counts.{counted, small_count};
 ghost use Rattle.osm_entity.specs.Entities.{degree};
+ghost use Rattle.osm_entity.specs.declared.verdict.Cause.{Cause};
 ghost use Rattle.osm_opl_line.specs.Contents.{changeset_in, count_in, degrees_in, deleted_in, text_in, time_in};
 ghost use Rattle.osm_opl_line.specs.Cut.{weighed};
 ghost use Rattle.osm_opl_line.specs.Line.{longest_line};
+ghost use Rattle.osm_opl_line.specs.declared.contents.ContentError.TheVariants.{Memory};
 
-use osm_entity::Cause;
-use osm_text::{read_nano, read_time, read_whole, unescaped_length};
+use osm_entity::{Cause, NoMemory, Text};
+use osm_text::{EscapeError, read_nano, read_time, read_whole, unescape, unescaped_length};
+use std::alloc::Global;
+
+/// Why a content, or a part of it, gave no value.
+#[derive(Clone, Copy, Debug)]
+pub(crate) enum ContentError {
+    /// It is bad, for this cause.
+    Bad(Cause),
+    /// Out of memory.
+    Memory,
+}
+
+impl From<NoMemory> for ContentError {
+    ghost from_gives = { λ _ e. e ≡ Memory };
+
+    fn from(_: NoMemory) -> Self {
+        ContentError::Memory
+    }
+}
 
 /// Nanodegrees to a degree.
 const DEGREE: u64 = 1_000_000_000;
@@ -106,5 +125,21 @@ pub(crate) fn weigh_text(content: &[u8]) -> Result<u64, Cause>
     match unescaped_length(content) {
         Some(length) => Ok(length as u64),
         None => Err(Cause::BadEscape),
+    }
+}
+
+/// The text that an escaped text says. `Bad` exactly where it is no escaped text, else only
+/// `Memory`.
+pub(crate) fn make_text(alloc: Global, content: &[u8]) -> Result<Text, ContentError>
+    requires { IsUtf8 content.now }
+    ensures value { IfOk result (λ text. text_in content.now ≡ Ok text) }
+    ensures shorter { IfOk result (λ text. length text ≤ length content.now) }
+    ensures refused { (cause : Cause) →
+        result ≡ Err (ContentError.Bad cause) → text_in content.now ≡ Err cause }
+{
+    match unescape(alloc, content) {
+        Ok(text) => Ok(text),
+        Err(EscapeError::BadEscape) => Err(ContentError::Bad(Cause::BadEscape)),
+        Err(EscapeError::Memory) => Err(ContentError::Memory),
     }
 }

@@ -1,4 +1,4 @@
-//! Cuts a line into its fields. Nothing is copied: each field is a slice of the line.
+//! Cuts a line into its fields: each field is a slice of the line.
 ghost use Rattle.std.specs.Prelude.{◌≡◌, ◌≤◌, ◌<◌, ◌↔◌, ◌∷◌, ◌==◌, ◌+◌, [], ℤ, None, Some, Ok, Err, IfOk, IfErr, IfSome, IsTrue, IsUtf8, length, slice_index};
 ghost use Rattle.std.specs.List.{list_any};
 ghost use Rattle.std.specs.Result.{result_err};
@@ -19,6 +19,7 @@ use crate::parting::kind_of;
 use crate::pieces::next_piece;
 use osm_entity::{Cause, Flow, Kind};
 use osm_text::read_whole;
+use std::alloc::Global;
 use std::simd::prelude::*;
 use std::str::from_utf8;
 
@@ -37,11 +38,16 @@ pub fn cut_line(line: &[u8], flow: Flow) -> Result<Option<Line<'_>>, Cause>
     ensures good { IfOk result (λ o. IfSome o (λ l. opl_line flow line.now ≡ Good (item_of l))) }
     ensures refused { (cause : Cause) → result ≡ Err cause ↔ opl_line flow line.now ≡ Bad cause }
 {
-    cut(line, flow)
+    cut(None, line, flow)
 }
 
-// The same, with all that it answers in one equation.
-fn cut(line: &[u8], flow: Flow) -> Result<Option<Line<'_>>, Cause>
+/// The same, with all that it answers in one equation. Where there is memory to make them in, texts
+/// and lists may be made at once.
+pub(crate) fn cut(
+    making: Option<Global>,
+    line: &[u8],
+    flow: Flow,
+) -> Result<Option<Line<'_>>, Cause>
     ensures value { answer_of result ≡ opl_line flow line.now }
     ensures fields { IfOk result (λ o. IfSome o (λ l. fields_of flow (pieces line.now) ≡ Some l)) }
 {
@@ -57,7 +63,7 @@ fn cut(line: &[u8], flow: Flow) -> Result<Option<Line<'_>>, Cause>
     if let Some(cause) = byte_fault(line) {
         return Err(cause);
     }
-    match cut_pieces(flow, letter, id, rest) {
+    match cut_pieces(making, flow, letter, id, rest) {
         Ok(line) => Ok(Some(line)),
         Err(cause) => Err(cause),
     }
@@ -164,7 +170,13 @@ fn has_control(line: &[u8]) -> bool
 }
 
 // Cuts a line whose first piece is a letter and an id.
-fn cut_pieces<'a>(flow: Flow, letter: u8, id: &[u8], rest: &'a [u8]) -> Result<Line<'a>, Cause>
+fn cut_pieces<'a>(
+    making: Option<Global>,
+    flow: Flow,
+    letter: u8,
+    id: &[u8],
+    rest: &'a [u8],
+) -> Result<Line<'a>, Cause>
     requires short { length rest.now ≤ longest_line }
     requires utf8 { letter < 128 → IsUtf8 rest.now }
     ensures fields { IfOk result (λ l.
@@ -180,12 +192,12 @@ fn cut_pieces<'a>(flow: Flow, letter: u8, id: &[u8], rest: &'a [u8]) -> Result<L
     let Ok(id) = read_whole(id) else {
         return Err(Cause::BadNumber);
     };
-    let draft = take_fields(kind, rest)?;
+    let draft = take_fields(making, kind, rest)?;
     judge(draft, flow, kind, id)
 }
 
 // Takes the fields of an entity of this kind, or gives the first fault.
-fn take_fields(kind: Kind, bytes: &[u8]) -> Result<Draft<'_>, Cause>
+fn take_fields(making: Option<Global>, kind: Kind, bytes: &[u8]) -> Result<Draft<'_>, Cause>
     requires short { length bytes.now ≤ longest_line }
     requires utf8 { IsUtf8 bytes.now }
     ensures refused { result_err result ≡ fault_among kind [] (pieces bytes.now) }
@@ -196,7 +208,7 @@ fn take_fields(kind: Kind, bytes: &[u8]) -> Result<Draft<'_>, Cause>
     let mut draft = Draft::new();
     let mut rest = bytes;
     while let Some((letter, content, more)) = next_piece(rest) {
-        draft.take(kind, letter, content)?;
+        draft.take(making, kind, letter, content)?;
         rest = more;
     }
     Ok(draft)

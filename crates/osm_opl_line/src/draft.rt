@@ -7,12 +7,11 @@ ghost use Rattle.osm_entity.specs.declared.verdict.Cause.TheVariants.{TwiceField
 ghost use Rattle.osm_opl_line.specs.Draft.{Fills, IsRead, draft_fault, refusal, slot_of};
 ghost use Rattle.osm_opl_line.specs.Line.{longest_line};
 
-use crate::contents::{
-    read_changeset, read_count, read_degrees, read_deleted, read_seconds, weigh_text,
-};
-use crate::line::Numbers;
-use crate::weighing::{weigh_members, weigh_refs, weigh_tags};
+use crate::contents::{read_changeset, read_count, read_degrees, read_deleted, read_seconds};
+use crate::line::{Made, Numbers};
+use crate::weighing::{weigh_user, weigh_values};
 use osm_entity::{Cause, Kind};
+use std::alloc::Global;
 
 /// The contents of the fields that were met, the numbers that they say, and what they weigh.
 #[derive(Drop)]
@@ -29,6 +28,7 @@ pub(crate) struct Draft<'a> {
     pub refs: Option<&'a [u8]>,
     pub members: Option<&'a [u8]>,
     pub numbers: Numbers,
+    pub made: Made,
     pub user_weight: u64,
     pub tags_weight: u64,
     pub refs_weight: u64,
@@ -62,6 +62,7 @@ impl<'a> Draft<'a> {
                 lon: None,
                 lat: None,
             },
+            made: Made::none(),
             user_weight: 0,
             tags_weight: 0,
             refs_weight: 0,
@@ -71,7 +72,13 @@ impl<'a> Draft<'a> {
 
     /// Takes the field of an entity of this kind with this letter and content, or gives what is
     /// wrong with it.
-    pub(crate) fn take(&mut self, kind: Kind, letter: u8, content: &'a [u8]) -> Result<(), Cause>
+    pub(crate) fn take(
+        &mut self,
+        making: Option<Global>,
+        kind: Kind,
+        letter: u8,
+        content: &'a [u8],
+    ) -> Result<(), Cause>
         requires short { length content.now ≤ longest_line }
         requires utf8 { letter < 128 → IsUtf8 content.now }
         ensures refused { result_err result ≡ draft_fault kind letter content.now self.old }
@@ -84,12 +91,12 @@ impl<'a> Draft<'a> {
             b'c' => self.take_changeset(content),
             b't' => self.take_time(content),
             b'i' => self.take_uid(content),
-            b'u' => self.take_user(content),
-            b'T' => self.take_tags(content),
+            b'u' => self.take_user(making, content),
+            b'T' => self.take_tags(making, content),
             b'x' if kind == Kind::Node => self.take_lon(content),
             b'y' if kind == Kind::Node => self.take_lat(content),
-            b'N' if kind == Kind::Way => self.take_refs(content),
-            b'M' if kind == Kind::Relation => self.take_members(content),
+            b'N' if kind == Kind::Way => self.take_refs(making, content),
+            b'M' if kind == Kind::Relation => self.take_members(making, content),
             _ => Err(Cause::BadField),
         }
     }
@@ -144,26 +151,30 @@ impl<'a> Draft<'a> {
         Ok(())
     }
 
-    fn take_user(&mut self, content: &'a [u8]) -> Result<(), Cause>
+    fn take_user(&mut self, making: Option<Global>, content: &'a [u8]) -> Result<(), Cause>
         requires short { length content.now ≤ longest_line }
         requires utf8 { IsUtf8 content.now }
         ensures refused { result_err result ≡ refusal letter_u content.now self.old }
         ensures ok { OnOk result (Fills letter_u content.now self.old self.new) }
     {
         check_free(self.u)?;
-        self.user_weight = weigh_text(content)?;
+        let user = weigh_user(making, content)?;
+        self.user_weight = user.weight;
+        self.made.user = user.made;
         self.u = Some(content);
         Ok(())
     }
 
-    fn take_tags(&mut self, content: &'a [u8]) -> Result<(), Cause>
+    fn take_tags(&mut self, making: Option<Global>, content: &'a [u8]) -> Result<(), Cause>
         requires short { length content.now ≤ longest_line }
         requires utf8 { IsUtf8 content.now }
         ensures refused { result_err result ≡ refusal capital_t content.now self.old }
         ensures ok { OnOk result (Fills capital_t content.now self.old self.new) }
     {
         check_free(self.tags)?;
-        self.tags_weight = weigh_tags(content)?;
+        let tags = weigh_values(making, content)?;
+        self.tags_weight = tags.weight;
+        self.made.tags = tags.made;
         self.tags = Some(content);
         Ok(())
     }
@@ -188,26 +199,30 @@ impl<'a> Draft<'a> {
         Ok(())
     }
 
-    fn take_refs(&mut self, content: &'a [u8]) -> Result<(), Cause>
+    fn take_refs(&mut self, making: Option<Global>, content: &'a [u8]) -> Result<(), Cause>
         requires short { length content.now ≤ longest_line }
         requires utf8 { IsUtf8 content.now }
         ensures refused { result_err result ≡ refusal capital_n content.now self.old }
         ensures ok { OnOk result (Fills capital_n content.now self.old self.new) }
     {
         check_free(self.refs)?;
-        self.refs_weight = weigh_refs(content)?;
+        let refs = weigh_values(making, content)?;
+        self.refs_weight = refs.weight;
+        self.made.refs = refs.made;
         self.refs = Some(content);
         Ok(())
     }
 
-    fn take_members(&mut self, content: &'a [u8]) -> Result<(), Cause>
+    fn take_members(&mut self, making: Option<Global>, content: &'a [u8]) -> Result<(), Cause>
         requires short { length content.now ≤ longest_line }
         requires utf8 { IsUtf8 content.now }
         ensures refused { result_err result ≡ refusal capital_m content.now self.old }
         ensures ok { OnOk result (Fills capital_m content.now self.old self.new) }
     {
         check_free(self.members)?;
-        self.members_weight = weigh_members(content)?;
+        let members = weigh_values(making, content)?;
+        self.members_weight = members.weight;
+        self.made.members = members.made;
         self.members = Some(content);
         Ok(())
     }

@@ -43,6 +43,7 @@ pub(crate) fn judge<'a>(
         y: draft.y,
         list,
         numbers: draft.numbers,
+        made: draft.made,
     })
 }
 

@@ -10,6 +10,7 @@ mod draft;
 mod judging;
 mod laws;
 mod line;
+mod listing;
 mod making;
 mod parting;
 mod parts;

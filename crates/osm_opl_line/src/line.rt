@@ -1,5 +1,7 @@
 //! A line that was cut into its fields.
-use osm_entity::{Flow, Kind};
+ghost use Rattle.std.specs.Prelude.{◌≡◌, None};
+
+use osm_entity::{Flow, Kind, Member, Sequence, Tag, Text};
 use std::marker::Model;
 
 /// The fields of a line that says an item. A field is the content after its letter, and `None`
@@ -30,6 +32,33 @@ pub struct Line<'a> {
     /// The field `N` of a way, or `M` of a relation.
     pub list: Option<&'a [u8]>,
     pub(crate) numbers: Numbers,
+    pub(crate) made: Made,
+}
+
+/// The texts and lists of the fields that were made when the line was cut; none where they weren't.
+#[derive(Debug, Drop)]
+pub(crate) struct Made {
+    pub user: Option<Text>,
+    pub tags: Option<Sequence<Tag>>,
+    pub refs: Option<Sequence<i64>>,
+    pub members: Option<Sequence<Member>>,
+}
+
+impl Made {
+    /// Nothing.
+    pub(crate) fn none() -> Self
+        ensures user { result.user ≡ None }
+        ensures tags { result.tags ≡ None }
+        ensures refs { result.refs ≡ None }
+        ensures members { result.members ≡ None }
+    {
+        Made {
+            user: None,
+            tags: None,
+            refs: None,
+            members: None,
+        }
+    }
 }
 
 /// The numbers of the fields, which are read once, when the line is cut.

@@ -2,19 +2,19 @@
 //!
 //! No field has a fault, which was looked at when the line was cut, so it fails only where it is
 //! out of memory.
-ghost use Rattle.std.specs.Prelude.{◌≡◌, ◌==◌, [], IfOk, IsOk, IsUtf8, Ok, length};
-ghost use Rattle.std.specs.List.{slice_split};
+ghost use Rattle.std.specs.Prelude.{◌≡◌, ◌≤◌, [], IfOk, IfSome, IsOk, IsUtf8, Ok, length};
 ghost use Rattle.std.specs.Option.{option_map};
-ghost use Rattle.osm_entity.specs.Ascii.{comma};
-ghost use Rattle.osm_opl_line.specs.Contents.{all_in, parts_of, text_in};
-ghost use Rattle.osm_opl_line.specs.Cut.{IsFine};
-ghost use Rattle.osm_opl_line.specs.Item.{act_of, body_of, item_of, place_of, value_of};
+ghost use Rattle.osm_entity.specs.declared.kind.Kind.TheVariants.{Relation, Way};
+ghost use Rattle.osm_opl_line.specs.Contents.{all_in, members_in, parts_of, refs_in, text_in};
+ghost use Rattle.osm_opl_line.specs.Cut.{IsFine, IsFineList};
+ghost use Rattle.osm_opl_line.specs.Item.{act_of, body_with, item_of, place_of, value_of};
+ghost use Rattle.osm_opl_line.specs.Line.{longest_line};
 
-use crate::line::Line;
-use crate::parts::{Part, read_text};
-use memchr::memchr_iter;
-use osm_entity::{Act, Body, Entity, Flow, Item, Kind, NoMemory, Place, Sequence, Text};
-use osm_text::first_part;
+use crate::contents::{ContentError, make_text};
+use crate::line::{Line, Made};
+use crate::listing::make_list;
+use crate::parts::Part;
+use osm_entity::{Act, Body, Entity, Flow, Item, Kind, Member, NoMemory, Place, Sequence, Text};
 use std::alloc::Global;
 
 impl<'a> Line<'a> {
@@ -22,10 +22,47 @@ impl<'a> Line<'a> {
     pub fn item(&self, alloc: Global) -> Result<Item, NoMemory>
         ensures { IfOk result (λ item. item ≡ item_of self.now) }
     {
+        self.bare().into_item(alloc)
+    }
+
+    // The same line, of which nothing is made.
+    fn bare(&self) -> Line<'a>
+        ensures { result ≡ self.now }
+    {
+        Line {
+            flow: self.flow,
+            kind: self.kind,
+            id: self.id,
+            v: self.v,
+            d: self.d,
+            c: self.c,
+            t: self.t,
+            i: self.i,
+            u: self.u,
+            tags: self.tags,
+            x: self.x,
+            y: self.y,
+            list: self.list,
+            numbers: self.numbers,
+            made: Made::none(),
+        }
+    }
+
+    /// The item that the line says, with what was made of it. `NoMemory` where it has no room.
+    pub(crate) fn into_item(self, alloc: Global) -> Result<Item, NoMemory>
+        ensures { IfOk result (λ item. item ≡ item_of self.entry) }
+    {
         let numbers = self.numbers;
-        let user = field_text(alloc, self.u)?;
-        let tags = field_list(alloc, self.tags)?;
-        let body = self.body(alloc)?;
+        let Made {
+            user,
+            tags,
+            refs,
+            members,
+        } = self.made;
+        let user = text_or(alloc, user, self.u)?;
+        let tags = list_or(alloc, tags, self.tags)?;
+        let place = place_of(numbers.lon, numbers.lat);
+        let body = body_or(alloc, self.kind, place, refs, members, self.list)?;
         let entity = Entity {
             id: self.id,
             version: numbers.version,
@@ -38,17 +75,6 @@ impl<'a> Line<'a> {
         };
         let act = act_of(self.flow, numbers.deleted, numbers.version);
         Ok(Item { act, entity })
-    }
-
-    // What is proper to the kind of the entity.
-    fn body(&self, alloc: Global) -> Result<Body, NoMemory>
-        ensures { IfOk result (λ body. body ≡ body_of self.now.kind self.now) }
-    {
-        match self.kind {
-            Kind::Node => Ok(Body::Node(place_of(self.numbers.lon, self.numbers.lat))),
-            Kind::Way => Ok(Body::Way(field_list(alloc, self.list)?)),
-            Kind::Relation => Ok(Body::Relation(field_list(alloc, self.list)?)),
-        }
     }
 }
 
@@ -72,52 +98,86 @@ fn place_of(lon: Option<i64>, lat: Option<i64>) -> Option<Place>
     }
 }
 
-// The text of a field; the empty text where it is absent.
-fn field_text(alloc: Global, field: Option<&[u8]>) -> Result<Text, NoMemory>
-    requires { IsFine text_in (option_map (λ s. s.now) field) }
-    ensures { IfOk result (λ text.
-        text ≡ value_of [] text_in (option_map (λ s. s.now) field.entry)) }
+// What is proper to the kind of the entity, of which the list may have been made.
+fn body_or(
+    alloc: Global,
+    kind: Kind,
+    place: Option<Place>,
+    refs: Option<Sequence<i64>>,
+    members: Option<Sequence<Member>>,
+    list: Option<&[u8]>,
+) -> Result<Body, NoMemory>
+    requires fine { IsFineList kind (option_map (λ s. s.now) list) }
+    requires refs { IfSome refs (λ made.
+        kind ≡ Way → value_of [] refs_in (option_map (λ s. s.now) list) ≡ made) }
+    requires members { IfSome members (λ made.
+        kind ≡ Relation → value_of [] members_in (option_map (λ s. s.now) list) ≡ made) }
+    ensures { IfOk result (λ body.
+        body ≡ body_with kind place (option_map (λ s. s.now) list.entry)) }
 {
-    match field {
-        Some(content) => read_text(alloc, content),
-        None => Ok(Text::new(alloc)),
+    match kind {
+        Kind::Node => Ok(Body::Node(place)),
+        Kind::Way => Ok(Body::Way(list_or(alloc, refs, list)?)),
+        Kind::Relation => Ok(Body::Relation(list_or(alloc, members, list)?)),
     }
 }
 
-// The list of a field; the empty list where it is absent.
-fn field_list<T: Part>(alloc: Global, field: Option<&[u8]>) -> Result<Sequence<T>, NoMemory>
-    requires { IsFine
+// The text of a field, which may have been made; the empty text where it is absent.
+fn text_or(alloc: Global, made: Option<Text>, field: Option<&[u8]>) -> Result<Text, NoMemory>
+    requires fine { IsFine text_in (option_map (λ s. s.now) field) }
+    requires made { IfSome made (λ text.
+        value_of [] text_in (option_map (λ s. s.now) field) ≡ text) }
+    ensures { IfOk result (λ text.
+        text ≡ value_of [] text_in (option_map (λ s. s.now) field.entry)) }
+{
+    match (made, field) {
+        (Some(text), _) => Ok(text),
+        (None, Some(content)) => read_text(alloc, content),
+        (None, None) => Ok(Text::new(alloc)),
+    }
+}
+
+fn read_text(alloc: Global, content: &[u8]) -> Result<Text, NoMemory>
+    requires utf8 { IsUtf8 content.now }
+    requires fine { IsOk (text_in content.now) }
+    ensures { IfOk result (λ text. text_in content.now ≡ Ok text) }
+{
+    match make_text(alloc, content) {
+        Ok(text) => Ok(text),
+        Err(ContentError::Memory) => Err(NoMemory),
+        Err(ContentError::Bad(_)) => unreachable!(),
+    }
+}
+
+// The list of a field, which may have been made; the empty list where it is absent.
+fn list_or<T: Part>(
+    alloc: Global,
+    made: Option<Sequence<T>>,
+    field: Option<&[u8]>,
+) -> Result<Sequence<T>, NoMemory>
+    requires fine { IsFine
         (λ content. all_in T.says (parts_of content)) (option_map (λ s. s.now) field) }
+    requires made { IfSome made (λ list. value_of []
+        (λ content. all_in T.says (parts_of content)) (option_map (λ s. s.now) field) ≡ list) }
     ensures { IfOk result (λ list. list ≡ value_of []
         (λ content. all_in T.says (parts_of content)) (option_map (λ s. s.now) field.entry)) }
 {
-    match field {
-        Some(content) => read_list(alloc, content),
-        None => Ok(Sequence::new(alloc)),
+    match (made, field) {
+        (Some(list), _) => Ok(list),
+        (None, Some(content)) => read_list(alloc, content),
+        (None, None) => Ok(Sequence::new(alloc)),
     }
 }
 
 fn read_list<T: Part>(alloc: Global, content: &[u8]) -> Result<Sequence<T>, NoMemory>
+    requires short { length content.now ≤ longest_line }
     requires utf8 { IsUtf8 content.now }
     requires fine { IsOk (all_in T.says (parts_of content.now)) }
     ensures { IfOk result (λ list. all_in T.says (parts_of content.now) ≡ Ok list) }
 {
-    if content.is_empty() {
-        return Ok(Sequence::new(alloc));
+    match make_list(alloc, content) {
+        Ok((list, _)) => Ok(list),
+        Err(ContentError::Memory) => Err(NoMemory),
+        Err(ContentError::Bad(_)) => unreachable!(),
     }
-    let mut list = Sequence::with_room(alloc, count_parts(content))?;
-    let mut rest = content;
-    while let Some((part, more)) = first_part(rest, b',') {
-        list.push(T::read(alloc, part)?)?;
-        rest = more;
-    }
-    list.push(T::read(alloc, rest)?)?;
-    Ok(list)
-}
-
-// How many parts stand between commas.
-fn count_parts(content: &[u8]) -> usize
-    ensures { result ≡ length (slice_split (λ b. b == comma) content.now) }
-{
-    memchr_iter(b',', content).count() + 1
 }

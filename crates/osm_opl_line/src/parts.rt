@@ -1,19 +1,19 @@
 //! The values of lists: tags, refs and members. Each is said by a part between commas, weighs
 //! something, and is written as a part again.
-ghost use Rattle.std.specs.Prelude.{◌≡◌, ◌≤◌, ◌+◌, ◌++◌, ◌∷◌, ℕ, List, Result, Ok, IfOk, IsOk, IsUtf8, OnErr, OnOk, length};
+ghost use Rattle.std.specs.Prelude.{◌≡◌, ◌≤◌, ◌+◌, ◌*◌, ◌++◌, ◌∷◌, ℕ, List, Result, Err, Ok, IfOk, IsUtf8, OnErr, OnOk, length};
 ghost use Rattle.std.specs.Fmt.{signed_decimal};
 ghost use Rattle.osm_entity.specs.Entities.{member_weight, tag_weight};
 ghost use Rattle.osm_entity.specs.Prefixes.{IsPrefix};
 ghost use Rattle.osm_entity.specs.declared.verdict.Cause.{Cause};
-ghost use Rattle.osm_opl_line.specs.Contents.{member_in, ref_in, tag_in, text_in};
+ghost use Rattle.osm_opl_line.specs.Contents.{member_in, ref_in, tag_in};
 ghost use Rattle.osm_opl_line.specs.Cut.{weighed};
 ghost use Rattle.osm_opl_line.specs.Line.{longest_line};
 ghost use Rattle.osm_opl_line.specs.Writing.{kind_letter, member_text, ref_text, tag_text};
 
-use crate::contents::weigh_text;
+use crate::contents::{ContentError, make_text, weigh_text};
 use crate::parting::{cut_member, cut_ref, cut_tag, letter_of};
-use osm_entity::{Bytes, Cause, Kind, Member, NoMemory, Tag, Text};
-use osm_text::{EscapeError, escape, read_whole, unescape, write_whole};
+use osm_entity::{Bytes, Cause, Kind, Member, NoMemory, Tag};
+use osm_text::{escape, read_whole, write_whole};
 use std::alloc::Global;
 
 /// A value of a list: a tag, a ref or a member.
@@ -33,11 +33,18 @@ pub(crate) trait Part: Drop {
         ensures value { result ≡ weighed weight (says part.now) }
         ensures small { IfOk result (λ n. n ≤ 32 + length part.now) };
 
-    /// The value that a part says.
-    fn read(alloc: Global, part: &[u8]) -> Result<Self, NoMemory>
-        requires utf8 { IsUtf8 part.now }
-        requires fine { IsOk (says part.now) }
-        ensures { IfOk result (λ value. says part.now ≡ Ok value) };
+    /// The value that a part says, or the cause why it is bad.
+    fn make(alloc: Global, part: &[u8]) -> Result<Self, ContentError>
+        requires { IsUtf8 part.now }
+        ensures value { IfOk result (λ value. says part.now ≡ Ok value) }
+        ensures light { IfOk result (λ value. weight value ≤ 32 + length part.now) }
+        ensures refused { (cause : Cause) →
+            result ≡ Err (ContentError.Bad cause) → says part.now ≡ Err cause };
+
+    /// What the value weighs.
+    fn weighs(&self) -> u64
+        requires { weight self.now ≤ 33 * longest_line }
+        ensures { result ≡ weight self.now };
 
     /// Appends the part of a value. At `Err` some of it may stand at the end.
     fn append_to(&self, out: &mut Bytes) -> Result<(), NoMemory>
@@ -62,13 +69,17 @@ impl Part for Tag {
         Ok(32 + key + value)
     }
 
-    fn read(alloc: Global, part: &[u8]) -> Result<Self, NoMemory> {
+    fn make(alloc: Global, part: &[u8]) -> Result<Self, ContentError> {
         let Some((key, value)) = cut_tag(part) else {
-            unreachable!();
+            return Err(ContentError::Bad(Cause::BadField));
         };
-        let key = read_text(alloc, key)?;
-        let value = read_text(alloc, value)?;
+        let key = make_text(alloc, key)?;
+        let value = make_text(alloc, value)?;
         Ok(Tag { key, value })
+    }
+
+    fn weighs(&self) -> u64 {
+        32 + self.key.as_slice().len() as u64 + self.value.as_slice().len() as u64
     }
 
     fn append_to(&self, out: &mut Bytes) -> Result<(), NoMemory> {
@@ -95,14 +106,18 @@ impl Part for i64 {
         }
     }
 
-    fn read(_: Global, part: &[u8]) -> Result<Self, NoMemory> {
+    fn make(_: Global, part: &[u8]) -> Result<Self, ContentError> {
         let Some(id) = cut_ref(part) else {
-            unreachable!();
+            return Err(ContentError::Bad(Cause::BadField));
         };
-        let Ok(id) = read_whole(id) else {
-            unreachable!();
-        };
-        Ok(id)
+        match read_whole(id) {
+            Ok(id) => Ok(id),
+            Err(_) => Err(ContentError::Bad(Cause::BadNumber)),
+        }
+    }
+
+    fn weighs(&self) -> u64 {
+        32
     }
 
     fn append_to(&self, out: &mut Bytes) -> Result<(), NoMemory> {
@@ -128,37 +143,25 @@ impl Part for Member {
         }
     }
 
-    fn read(alloc: Global, part: &[u8]) -> Result<Self, NoMemory> {
+    fn make(alloc: Global, part: &[u8]) -> Result<Self, ContentError> {
         let Some((kind, id, role)) = cut_member(part) else {
-            unreachable!();
+            return Err(ContentError::Bad(Cause::BadField));
         };
         let Ok(id) = read_whole(id) else {
-            unreachable!();
+            return Err(ContentError::Bad(Cause::BadNumber));
         };
-        let role = read_text(alloc, role)?;
+        let role = make_text(alloc, role)?;
         Ok(Member { kind, id, role })
+    }
+
+    fn weighs(&self) -> u64 {
+        32 + self.role.as_slice().len() as u64
     }
 
     fn append_to(&self, out: &mut Bytes) -> Result<(), NoMemory> {
         append_id(out, self.kind, self.id)?;
         out.push(b'@')?;
         escape(out, &self.role)
-    }
-}
-
-/// The text that an escaped text without a fault says.
-pub(crate) fn read_text(alloc: Global, content: &[u8]) -> Result<Text, NoMemory>
-    requires utf8 { IsUtf8 content.now }
-    requires fine { IsOk (text_in content.now) }
-    ensures { IfOk result (λ text. text_in content.now ≡ Ok text) }
-{
-    if content.is_empty() {
-        return Ok(Text::new(alloc));
-    }
-    match unescape(alloc, content) {
-        Ok(text) => Ok(text),
-        Err(EscapeError::Memory) => Err(NoMemory),
-        Err(EscapeError::BadEscape) => unreachable!(),
     }
 }
 

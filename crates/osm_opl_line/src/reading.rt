@@ -3,7 +3,7 @@ ghost use Rattle.std.specs.Prelude.{◌≡◌, IfOk};
 ghost use Rattle.osm_opl_line.specs.Line.{opl_line};
 ghost use Rattle.osm_opl_line.specs.Seen.{line_seen};
 
-use crate::cutting::cut_line;
+use crate::cutting::cut;
 use osm_entity::{Cause, Flow, Item, NoMemory};
 use std::alloc::Global;
 
@@ -20,8 +20,8 @@ pub enum LineRead {
 pub fn read_line(alloc: Global, line: &[u8], flow: Flow) -> Result<LineRead, NoMemory>
     ensures { IfOk result (λ read. line_seen read ≡ opl_line flow line.now) }
 {
-    match cut_line(line, flow) {
-        Ok(Some(line)) => Ok(LineRead::Item(line.item(alloc)?)),
+    match cut(Some(alloc), line, flow) {
+        Ok(Some(line)) => Ok(LineRead::Item(line.into_item(alloc)?)),
         Ok(None) => Ok(LineRead::Skipped),
         Err(cause) => Ok(LineRead::Bad(cause)),
     }

@@ -2,7 +2,7 @@ use Rattle.std.proofs.Common.{arith, ap, length}
 use Rattle.std.proofs.lemmas.List.Splits.{length-slice_split}
 use Rattle.memchr.proofs.lemmas.CallerLemmas.{length-places}
 use Rattle.memchr.specs.Find.{is_byte}
-use Rattle.osm_opl_line.proofs.making.count_parts.Goals as goal
+use Rattle.osm_opl_line.proofs.listing.count_parts.Goals as goal
 
 pub returns : goal.returns
 returns c =

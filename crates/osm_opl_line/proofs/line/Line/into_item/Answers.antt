@@ -1,9 +1,14 @@
-use Rattle.std.proofs.Common.{◌≡◌, ℕ, ℤ, subst, sym}
+use Rattle.std.proofs.Common.{◌≡◌, ◌∙◌, ℕ, ℤ}
 use Rattle.osm_opl_line.specs.Cut.{fields_seen}
-use Rattle.osm_opl_line.specs.Fields.{Fields}
 use Rattle.osm_opl_line.specs.Item.{body_of}
-use Rattle.osm_opl_line.proofs.MakingLemmas.{IsEntityOf, entity-kept, item-kept}
-use Rattle.osm_opl_line.proofs.line.Line.item.Goals as goal
+use Rattle.osm_opl_line.proofs.MakingLemmas.{IsEntityOf, body_with-fields, entity-kept, item-kept}
+use Rattle.osm_opl_line.proofs.line.Line.into_item.Goals as goal
+
+-- the body that is made is that of the fields
+body : (c : goal.After-act_of-act) → c.in_ok-body.body ≡ body_of c.self.inside.kind (fields_seen c.self.inside)
+body c =
+    (rw (c.place_of-place.ensures, c.self.invariant.lon, c.self.invariant.lat) at c.in_ok-body.ensures)
+    ∙ body_with-fields c.self.inside.kind (fields_seen c.self.inside)
 
 -- the entity that is made has the values of the fields
 made : (c : goal.After-act_of-act) (id : ℤ) (time : ℕ) → IsEntityOf (fields_seen c.self.inside) (record {
@@ -22,7 +27,7 @@ made c id time = record {
   uid = c.self.invariant.uid;
   user = c.in_ok-user.ensures;
   tags = c.in_ok-tags.ensures;
-  body = subst (λ (f : Fields). c.in_ok-body.body ≡ body_of f.kind f) (sym c.self.view_is) c.in_ok-body.ensures;
+  body = body c;
 }
 
 pub invariant_of-entity : goal.invariant_of-entity

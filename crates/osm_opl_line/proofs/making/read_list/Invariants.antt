@@ -1,9 +1,0 @@
-use Rattle.std.proofs.Common.{length}
-use Rattle.osm_opl_line.proofs.MadeListLemmas.{IsReadTo}
-use Rattle.osm_opl_line.proofs.making.read_list.Given as goal
-
-abbrev pub invariant-loop-part : goal.invariant-loop-part
-invariant-loop-part g l = IsReadTo g.T.Part.says l.content l.list l.rest
-
-abbrev pub decreases-loop-part : goal.decreases-loop-part
-decreases-loop-part g l = length l.rest
