@@ -76,6 +76,7 @@ pub made-last : {T : Type 0} (weight : T → ℕ) (says : List ℕ → Result T 
     IsMadeTo weight says content values total rest → comma_parts rest ≡ rest ∷ [] → says rest ≡ Ok value →
     n ≡ weight value → grown ≡ values ++ value ∷ [] →
     (all_in says (parts_of content) ≡ Ok grown) × (total + n ≡ sum_by weight grown)
-made-last weight says content values grown value total n rest made is said weighs pushed =
-    ((rw (is, said) at made.known) ∙ ap Ok (sym pushed),
-    rw pushed (omega (arith, sum_by_push weight values value, made.sum, weighs)))
+made-last weight says content values grown value total n rest made is said weighs pushed = (
+  (rw (is, said) at made.known) ∙ ap Ok (sym pushed),
+  rw pushed (omega (arith, sum_by_push weight values value, made.sum, weighs)),
+)

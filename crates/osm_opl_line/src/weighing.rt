@@ -24,10 +24,7 @@ pub(crate) struct Weighed<T> {
 }
 
 /// What a text weighs, and the text where there is memory to make it in.
-pub(crate) fn weigh_user(
-    making: Option<Global>,
-    content: &[u8],
-) -> Result<Weighed<Text>, Cause>
+pub(crate) fn weigh_user(making: Option<Global>, content: &[u8]) -> Result<Weighed<Text>, Cause>
     requires short { length content.now ≤ longest_line }
     requires utf8 { IsUtf8 content.now }
     ensures weight { IfOk result (λ w. Ok w.weight ≡ weighed length (text_in content.now)) }
