@@ -2,7 +2,7 @@
 //!
 //! Keys, values, roles and user names are nearly always short, and to take and give back a block
 //! costs more than all else that is done with them.
-ghost use Rattle.std.specs.Prelude.{◌≡◌, ◌≤◌, [], length, IfOk};
+ghost use Rattle.std.specs.Prelude.{◌≡◌, ◌≤◌, [], length, take, IfOk};
 ghost use Rattle.osm_entity.specs.Storage.{text_room, stored_bytes, FitsRoom};
 
 use crate::sequence::NoMemory;
@@ -42,6 +42,35 @@ impl Storage {
             Ok(Storage::short(bytes))
         } else {
             Storage::long(alloc, bytes)
+        }
+    }
+
+    /// A copy of the first `len` of these bytes. Up to 22 take no memory.
+    ///
+    /// Where at least 22 bytes are there all of them are copied, also those past `len`: to copy a
+    /// fixed number takes no call, and the processor doesn't wait for its own stores.
+    pub(crate) fn from_start(alloc: Global, bytes: &[u8], len: usize) -> Result<Self, NoMemory>
+        requires { len ≤ length bytes.now }
+        ensures value { IfOk result (λ s. stored_bytes s ≡ take len bytes.now) }
+        ensures fits { IfOk result FitsRoom }
+    {
+        if len > ROOM {
+            return Storage::long(alloc, &bytes[..len]);
+        }
+        match bytes.first_chunk::<ROOM>() {
+            Some(room) => Ok(Storage::first_of(room, len)),
+            None => Ok(Storage::short(&bytes[..len])),
+        }
+    }
+
+    fn first_of(room: &[u8; ROOM], len: usize) -> Self
+        requires { len ≤ text_room }
+        ensures value { stored_bytes result ≡ take len room.now }
+        ensures fits { FitsRoom result }
+    {
+        Storage::Short {
+            len: len as u8,
+            bytes: *room,
         }
     }
 
