@@ -20,5 +20,6 @@ pub mod PlainTextLemmas
 pub mod PrefixLemmas
 pub mod SettlingLemmas
 pub mod SizeLemmas
+pub mod StartLemmas
 pub mod WeighingLemmas
 pub mod WritingLemmas

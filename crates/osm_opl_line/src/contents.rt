@@ -1,5 +1,5 @@
 //! Reads the contents of fields: numbers by their values, and texts by what they weigh or as texts.
-ghost use Rattle.std.specs.Prelude.{◌≡◌, ◌≤◌, ◌*◌, Err, IfOk, IsUtf8, Ok, length, nat_abs, nat_le};
+ghost use Rattle.std.specs.Prelude.{◌≡◌, ◌≤◌, ◌*◌, Err, IfOk, IsUtf8, Ok, length, nat_abs, nat_le, take};
 ghost use Rattle.osm_entity.specs.Counts.{counted, small_count};
 ghost use Rattle.osm_entity.specs.Entities.{degree};
 ghost use Rattle.osm_entity.specs.declared.verdict.Cause.{Cause};
@@ -9,7 +9,9 @@ ghost use Rattle.osm_opl_line.specs.Line.{longest_line};
 ghost use Rattle.osm_opl_line.specs.declared.contents.ContentError.TheVariants.{Memory};
 
 use osm_entity::{Cause, NoMemory, Text};
-use osm_text::{EscapeError, read_nano, read_time, read_whole, unescape, unescaped_length};
+use osm_text::{
+    EscapeError, first_part, read_nano, read_time, read_whole, unescape, unescaped_length,
+};
 use std::alloc::Global;
 
 /// Why a content, or a part of it, gave no value.
@@ -128,15 +130,20 @@ pub(crate) fn weigh_text(content: &[u8]) -> Result<u64, Cause>
     }
 }
 
-/// The text that an escaped text says. `Bad` exactly where it is no escaped text, else only
-/// `Memory`.
-pub(crate) fn make_text(alloc: Global, content: &[u8]) -> Result<Text, ContentError>
-    requires { IsUtf8 content.now }
-    ensures value { IfOk result (λ text. text_in content.now ≡ Ok text) }
-    ensures shorter { IfOk result (λ text. length text ≤ length content.now) }
+/// The text that the first `len` of these bytes say, which are an escaped text. `Bad` exactly where
+/// they are none, else only `Memory`. It takes less time where more bytes are behind them.
+pub(crate) fn make_text(alloc: Global, bytes: &[u8], len: usize) -> Result<Text, ContentError>
+    requires within { len ≤ length bytes.now }
+    requires utf8 { IsUtf8 (take len bytes.now) }
+    ensures value { IfOk result (λ text. text_in (take len bytes.now) ≡ Ok text) }
+    ensures shorter { IfOk result (λ text. length text ≤ len) }
     ensures refused { (cause : Cause) →
-        result ≡ Err (ContentError.Bad cause) → text_in content.now ≡ Err cause }
+        result ≡ Err (ContentError.Bad cause) → text_in (take len bytes.now) ≡ Err cause }
 {
+    let content = &bytes[..len];
+    if first_part(content, b'%').is_none() {
+        return Ok(Text::from_start(alloc, bytes, len)?);
+    }
     match unescape(alloc, content) {
         Ok(text) => Ok(text),
         Err(EscapeError::BadEscape) => Err(ContentError::Bad(Cause::BadEscape)),

@@ -33,12 +33,12 @@ pub(crate) fn make_list<T: Part>(
     let mut total = 0;
     let mut rest = content;
     while let Some((part, more)) = first_part(rest, b',') {
-        let value = T::make(alloc, part)?;
+        let value = T::make(alloc, rest, part.len())?;
         total += value.weighs();
         list.push(value)?;
         rest = more;
     }
-    let last = T::make(alloc, rest)?;
+    let last = T::make(alloc, rest, rest.len())?;
     total += last.weighs();
     list.push(last)?;
     Ok((list, total))

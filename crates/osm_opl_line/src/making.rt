@@ -142,7 +142,7 @@ fn read_text(alloc: Global, content: &[u8]) -> Result<Text, NoMemory>
     requires fine { IsOk (text_in content.now) }
     ensures { IfOk result (λ text. text_in content.now ≡ Ok text) }
 {
-    match make_text(alloc, content) {
+    match make_text(alloc, content, content.len()) {
         Ok(text) => Ok(text),
         Err(ContentError::Memory) => Err(NoMemory),
         Err(ContentError::Bad(_)) => unreachable!(),

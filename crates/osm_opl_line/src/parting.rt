@@ -1,5 +1,5 @@
 //! Cuts tags and members into their parts, which are slices of them.
-ghost use Rattle.std.specs.Prelude.{◌≡◌, ◌≤◌, ◌<◌, ◌+◌, ◌≢◌, Err, Some, IfNone, IfSome, IsUtf8, length, []};
+ghost use Rattle.std.specs.Prelude.{◌≡◌, ◌≤◌, ◌<◌, ◌+◌, ◌≢◌, Err, Some, IfNone, IfSome, IsUtf8, length, [], drop, take};
 ghost use Rattle.std.specs.List.{position};
 ghost use Rattle.std.specs.Option.{ok_or};
 ghost use Rattle.osm_entity.specs.declared.verdict.Cause.TheVariants.{BadField, BadNumber};
@@ -51,6 +51,8 @@ pub(crate) fn cut_tag(part: &[u8]) -> Option<(&[u8], &[u8])>
     ensures some { IfSome result (λ p.
         tag_in part.now ≡ tag_of (text_in p.0.now) (text_in p.1.now)) }
     ensures named { IfSome result (λ p. p.0.now ≢ []) }
+    ensures key { IfSome result (λ p. take (length p.0.now) part.now ≡ p.0.now) }
+    ensures value { IfSome result (λ p. drop (length p.0.now + 1) part.now ≡ p.1.now) }
     ensures shorter { IfSome result (λ p. length p.0.now + length p.1.now < length part.now) }
     ensures utf8 { IfSome result (λ p. IsUtf8 part.now → IsUtf8 p.0.now × IsUtf8 p.1.now) }
 {

@@ -1,6 +1,6 @@
 //! The values of lists: tags, refs and members. Each is said by a part between commas, weighs
 //! something, and is written as a part again.
-ghost use Rattle.std.specs.Prelude.{◌≡◌, ◌≤◌, ◌+◌, ◌*◌, ◌++◌, ◌∷◌, ℕ, List, Result, Err, Ok, IfOk, IsUtf8, OnErr, OnOk, length};
+ghost use Rattle.std.specs.Prelude.{◌≡◌, ◌≤◌, ◌+◌, ◌*◌, ◌++◌, ◌∷◌, ℕ, List, Result, Err, Ok, IfOk, IsUtf8, OnErr, OnOk, length, take};
 ghost use Rattle.std.specs.Fmt.{signed_decimal};
 ghost use Rattle.osm_entity.specs.Entities.{member_weight, tag_weight};
 ghost use Rattle.osm_entity.specs.Prefixes.{IsPrefix};
@@ -33,13 +33,15 @@ pub(crate) trait Part: Drop {
         ensures value { result ≡ weighed weight (says part.now) }
         ensures small { IfOk result (λ n. n ≤ 32 + length part.now) };
 
-    /// The value that a part says, or the cause why it is bad.
-    fn make(alloc: Global, part: &[u8]) -> Result<Self, ContentError>
-        requires { IsUtf8 part.now }
-        ensures value { IfOk result (λ value. says part.now ≡ Ok value) }
-        ensures light { IfOk result (λ value. weight value ≤ 32 + length part.now) }
-        ensures refused { (cause : Cause) →
-            result ≡ Err (ContentError.Bad cause) → says part.now ≡ Err cause };
+    /// The value that a part says, which is the first `len` of these bytes, or the cause why it is
+    /// bad.
+    fn make(alloc: Global, bytes: &[u8], len: usize) -> Result<Self, ContentError>
+        requires within { len ≤ length bytes.now }
+        requires utf8 { IsUtf8 (take len bytes.now) }
+        ensures value { IfOk result (λ value. says (take len bytes.now) ≡ Ok value) }
+        ensures light { IfOk result (λ value. weight value ≤ 32 + len) }
+        ensures refused { (cause : Cause) → result ≡ Err (ContentError.Bad cause) →
+            says (take len bytes.now) ≡ Err cause };
 
     /// What the value weighs.
     fn weighs(&self) -> u64
@@ -69,12 +71,13 @@ impl Part for Tag {
         Ok(32 + key + value)
     }
 
-    fn make(alloc: Global, part: &[u8]) -> Result<Self, ContentError> {
-        let Some((key, value)) = cut_tag(part) else {
+    fn make(alloc: Global, bytes: &[u8], len: usize) -> Result<Self, ContentError> {
+        let Some((key, value)) = cut_tag(&bytes[..len]) else {
             return Err(ContentError::Bad(Cause::BadField));
         };
-        let key = make_text(alloc, key)?;
-        let value = make_text(alloc, value)?;
+        let value_at = key.len() + 1;
+        let key = make_text(alloc, bytes, key.len())?;
+        let value = make_text(alloc, &bytes[value_at..], value.len())?;
         Ok(Tag { key, value })
     }
 
@@ -106,8 +109,8 @@ impl Part for i64 {
         }
     }
 
-    fn make(_: Global, part: &[u8]) -> Result<Self, ContentError> {
-        let Some(id) = cut_ref(part) else {
+    fn make(_: Global, bytes: &[u8], len: usize) -> Result<Self, ContentError> {
+        let Some(id) = cut_ref(&bytes[..len]) else {
             return Err(ContentError::Bad(Cause::BadField));
         };
         match read_whole(id) {
@@ -143,14 +146,14 @@ impl Part for Member {
         }
     }
 
-    fn make(alloc: Global, part: &[u8]) -> Result<Self, ContentError> {
-        let Some((kind, id, role)) = cut_member(part) else {
+    fn make(alloc: Global, bytes: &[u8], len: usize) -> Result<Self, ContentError> {
+        let Some((kind, id, role)) = cut_member(&bytes[..len]) else {
             return Err(ContentError::Bad(Cause::BadField));
         };
         let Ok(id) = read_whole(id) else {
             return Err(ContentError::Bad(Cause::BadNumber));
         };
-        let role = make_text(alloc, role)?;
+        let role = make_text(alloc, role, role.len())?;
         Ok(Member { kind, id, role })
     }
 

@@ -54,7 +54,7 @@ fn made_text(making: Option<Global>, content: &[u8]) -> Result<Text, ContentErro
         result ≡ Err (ContentError.Bad cause) → text_in content.now ≡ Err cause }
 {
     match making {
-        Some(alloc) if content.len() <= MOST_MADE => make_text(alloc, content),
+        Some(alloc) if content.len() <= MOST_MADE => make_text(alloc, content, content.len()),
         _ => Err(ContentError::Memory),
     }
 }
