@@ -1,4 +1,4 @@
-use Rattle.std.proofs.Common.{◌+◌, ◌-◌, arith}
+use Rattle.std.proofs.Common.{◌+◌, arith}
 use Rattle.osm_opl_line.proofs.BytesLemmas.{plain-covered}
 use Rattle.osm_opl_line.proofs.cutting.plain_length.Goals as goal
 

@@ -1,4 +1,4 @@
-use Rattle.std.proofs.Common.{◌≡◌, ◌∙◌, ◌*◌, ℤ, List, [], Some, Ok, Err, length, sym, rules}
+use Rattle.std.proofs.Common.{◌≡◌, ◌∙◌, ◌*◌, ℤ, List, [], Some, length, sym, rules}
 use Rattle.std.specs.Result.{result_err}
 use Rattle.osm_opl_line.specs.Contents.{refs_in}
 use Rattle.osm_opl_line.proofs.DraftLemmas.{result_err-weighed, IsWeighed-from_ok, made-value}
