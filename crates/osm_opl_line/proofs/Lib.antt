@@ -16,6 +16,7 @@ pub mod MadeTextLemmas
 pub mod MakingLemmas
 pub mod PartLemmas
 pub mod PieceLemmas
+pub mod PlainPartLemmas
 pub mod PlainTextLemmas
 pub mod PrefixLemmas
 pub mod SettlingLemmas

@@ -1,9 +1,9 @@
 -- What the content of a field says: a value, or a cause why it is bad.
 -- Here a content is cut at once at its commas; the code goes from one part to the next.
-use Rattle.std.specs.Prelude.{ℕ, ℤ, nat_abs, ◌*◌, List, [], ◌∷◌, length, Bool, true, false, ◌&&◌, ◌==◌, nat_lt, nat_le, if◌then◌else◌, Option, Some, None, Result, Ok, Err}
+use Rattle.std.specs.Prelude.{ℕ, ℤ, nat_abs, ◌≡◌, ◌*◌, All, List, [], ◌∷◌, length, Bool, true, false, ◌&&◌, ◌==◌, nat_lt, nat_le, if◌then◌else◌, Option, Some, None, Result, Ok, Err}
 use Rattle.std.specs.List.{slice_split, position_or_len, before_first, after_first, list_any}
 use Rattle.std.specs.Option.{option_map, option_and_then, ok_or}
-use Rattle.osm_entity.specs.Ascii.{comma, equals_sign, at_sign, letter_n, letter_w, letter_r, capital_d, capital_v}
+use Rattle.osm_entity.specs.Ascii.{comma, percent_sign, equals_sign, at_sign, letter_n, letter_w, letter_r, capital_d, capital_v}
 use Rattle.osm_entity.specs.Counts.{counted, small_count}
 use Rattle.osm_entity.specs.Entities.{degree}
 use Rattle.osm_entity.specs.declared.kind.Kind.{Kind}
@@ -41,6 +41,10 @@ time_in content = ok_or (time content) BadTime
 -- an escaped text
 abbrev pub text_in : List ℕ → Result (List ℕ) Cause
 text_in content = ok_or (unescaped content) BadEscape
+
+-- no byte of a text is a %, so nothing in it is escaped
+abbrev pub HasNoEscape : List ℕ → Type 0
+HasNoEscape text = All (λ b. (b == percent_sign) ≡ false) text
 
 -- nanodegrees, of at most this number of degrees in size
 abbrev pub within : ℕ → Option ℤ → Result (Option ℤ) Cause

@@ -3,7 +3,7 @@ ghost use Rattle.std.specs.Prelude.{◌≡◌, ◌≤◌, ◌*◌, Err, IfOk, Is
 ghost use Rattle.osm_entity.specs.Counts.{counted, small_count};
 ghost use Rattle.osm_entity.specs.Entities.{degree};
 ghost use Rattle.osm_entity.specs.declared.verdict.Cause.{Cause};
-ghost use Rattle.osm_opl_line.specs.Contents.{changeset_in, count_in, degrees_in, deleted_in, text_in, time_in};
+ghost use Rattle.osm_opl_line.specs.Contents.{HasNoEscape, changeset_in, count_in, degrees_in, deleted_in, text_in, time_in};
 ghost use Rattle.osm_opl_line.specs.Cut.{weighed};
 ghost use Rattle.osm_opl_line.specs.Line.{longest_line};
 ghost use Rattle.osm_opl_line.specs.declared.contents.ContentError.TheVariants.{Memory};
@@ -128,6 +128,17 @@ pub(crate) fn weigh_text(content: &[u8]) -> Result<u64, Cause>
         Some(length) => Ok(length as u64),
         None => Err(Cause::BadEscape),
     }
+}
+
+/// The text of the first `len` of these bytes, in which there is no `%`.
+pub(crate) fn make_plain_text(alloc: Global, bytes: &[u8], len: usize) -> Result<Text, NoMemory>
+    requires within { len ≤ length bytes.now }
+    requires utf8 { IsUtf8 (take len bytes.now) }
+    requires plain { HasNoEscape (take len bytes.now) }
+    ensures value { IfOk result (λ text. text_in (take len bytes.now) ≡ Ok text) }
+    ensures shorter { IfOk result (λ text. length text ≤ len) }
+{
+    Text::from_start(alloc, bytes, len)
 }
 
 /// The text that the first `len` of these bytes say, which are an escaped text. `Bad` exactly where

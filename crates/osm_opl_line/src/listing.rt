@@ -1,16 +1,16 @@
 //! Makes the values of lists, part by part.
-ghost use Rattle.std.specs.Prelude.{◌≡◌, ◌==◌, ◌≤◌, ◌*◌, Err, IfOk, IsUtf8, Ok, length, sum_by};
+ghost use Rattle.std.specs.Prelude.{◌≡◌, ◌==◌, ◌≤◌, ◌+◌, ◌*◌, Err, IfOk, IsTrue, IsUtf8, Ok, length, sum_by, take};
 ghost use Rattle.std.specs.List.{slice_split};
 ghost use Rattle.osm_entity.specs.Ascii.{comma};
 ghost use Rattle.osm_entity.specs.declared.verdict.Cause.{Cause};
-ghost use Rattle.osm_opl_line.specs.Contents.{all_in, parts_of};
+ghost use Rattle.osm_opl_line.specs.Contents.{HasNoEscape, all_in, parts_of};
 ghost use Rattle.osm_opl_line.specs.Line.{longest_line};
 
 use crate::contents::ContentError;
+use crate::parting::cut_part;
 use crate::parts::Part;
 use memchr::memchr_iter;
 use osm_entity::Sequence;
-use osm_text::first_part;
 use std::alloc::Global;
 
 /// The values of a list and what they weigh together, or the cause of the first bad part.
@@ -32,8 +32,8 @@ pub(crate) fn make_list<T: Part>(
     let mut list = Sequence::with_room(alloc, count_parts(content))?;
     let mut total = 0;
     let mut rest = content;
-    while let Some((part, more)) = first_part(rest, b',') {
-        let value = T::make(alloc, rest, part.len())?;
+    while let Some((part, more, is_plain)) = cut_part(rest) {
+        let value = make_part::<T>(alloc, rest, part.len(), is_plain)?;
         total += value.weighs();
         list.push(value)?;
         rest = more;
@@ -42,6 +42,28 @@ pub(crate) fn make_list<T: Part>(
     total += last.weighs();
     list.push(last)?;
     Ok((list, total))
+}
+
+// The value of the part that is the first `len` of these bytes. Where it is plain it has no `%`.
+fn make_part<T: Part>(
+    alloc: Global,
+    bytes: &[u8],
+    len: usize,
+    is_plain: bool,
+) -> Result<T, ContentError>
+    requires within { len ≤ length bytes.now }
+    requires utf8 { IsUtf8 (take len bytes.now) }
+    requires plain { IsTrue is_plain → HasNoEscape (take len bytes.now) }
+    ensures value { IfOk result (λ value. T.says (take len bytes.now) ≡ Ok value) }
+    ensures light { IfOk result (λ value. T.weight value ≤ 32 + len) }
+    ensures refused { (cause : Cause) → result ≡ Err (ContentError.Bad cause) →
+        T.says (take len bytes.now) ≡ Err cause }
+{
+    if is_plain {
+        T::make_plain(alloc, bytes, len)
+    } else {
+        T::make(alloc, bytes, len)
+    }
 }
 
 // How many parts stand between commas.

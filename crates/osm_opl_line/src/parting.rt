@@ -1,14 +1,15 @@
 //! Cuts tags and members into their parts, which are slices of them.
-ghost use Rattle.std.specs.Prelude.{◌≡◌, ◌≤◌, ◌<◌, ◌+◌, ◌≢◌, Err, Some, IfNone, IfSome, IsUtf8, length, [], drop, take};
-ghost use Rattle.std.specs.List.{position};
+ghost use Rattle.std.specs.Prelude.{◌≡◌, ◌≤◌, ◌<◌, ◌+◌, ◌≢◌, ◌==◌, ◌∷◌, Err, Some, IfNone, IfSome, IsTrue, IsUtf8, length, [], drop, take};
+ghost use Rattle.std.specs.List.{position, slice_split};
 ghost use Rattle.std.specs.Option.{ok_or};
 ghost use Rattle.osm_entity.specs.declared.verdict.Cause.TheVariants.{BadField, BadNumber};
+ghost use Rattle.osm_entity.specs.Ascii.{comma};
 ghost use Rattle.osm_text.specs.Numbers.{whole};
-ghost use Rattle.osm_opl_line.specs.Contents.{is_at_sign, is_equals, kind_by, member_in, member_of, ref_in, tag_in, tag_of, text_in};
+ghost use Rattle.osm_opl_line.specs.Contents.{HasNoEscape, is_at_sign, is_equals, kind_by, member_in, member_of, ref_in, tag_in, tag_of, text_in};
 ghost use Rattle.osm_opl_line.specs.Writing.{kind_letter};
 
 use osm_entity::Kind;
-use osm_text::position_of;
+use osm_text::{first_part, position_of, position_of_either};
 
 /// The kind of a letter: `n`, `w` or `r`.
 pub(crate) fn kind_of(letter: u8) -> Option<Kind>
@@ -43,6 +44,24 @@ fn find_at_sign(part: &[u8]) -> Option<usize>
     ensures { result ≡ position is_at_sign part.now }
 {
     position_of(part, b'@')
+}
+
+/// The part before the first comma, the bytes after the comma, and whether it was seen that the part
+/// has no `%`. `None` where there is no comma.
+pub(crate) fn cut_part(bytes: &[u8]) -> Option<(&[u8], &[u8], bool)>
+    ensures none { IfNone result (slice_split (λ b. b == comma) bytes.now ≡ bytes.now ∷ []) }
+    ensures some { IfSome result (λ p.
+        slice_split (λ b. b == comma) bytes.now
+        ≡ p.0.now ∷ slice_split (λ b. b == comma) p.1.now) }
+    ensures shorter { IfSome result (λ p. length p.1.now < length bytes.now) }
+    ensures plain { IfSome result (λ p. IsTrue p.2 → HasNoEscape p.0.now) }
+{
+    let at = position_of_either(bytes, b',', b'%')?;
+    if bytes[at] == b',' {
+        return Some((&bytes[..at], &bytes[at + 1..], true));
+    }
+    let (part, more) = first_part(bytes, b',')?;
+    Some((part, more, false))
 }
 
 /// The escaped key and value of a tag; `None` where it has no `=`, or no key before it.

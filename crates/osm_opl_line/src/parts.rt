@@ -5,12 +5,12 @@ ghost use Rattle.std.specs.Fmt.{signed_decimal};
 ghost use Rattle.osm_entity.specs.Entities.{member_weight, tag_weight};
 ghost use Rattle.osm_entity.specs.Prefixes.{IsPrefix};
 ghost use Rattle.osm_entity.specs.declared.verdict.Cause.{Cause};
-ghost use Rattle.osm_opl_line.specs.Contents.{member_in, ref_in, tag_in};
+ghost use Rattle.osm_opl_line.specs.Contents.{HasNoEscape, member_in, ref_in, tag_in};
 ghost use Rattle.osm_opl_line.specs.Cut.{weighed};
 ghost use Rattle.osm_opl_line.specs.Line.{longest_line};
 ghost use Rattle.osm_opl_line.specs.Writing.{kind_letter, member_text, ref_text, tag_text};
 
-use crate::contents::{ContentError, make_text, weigh_text};
+use crate::contents::{ContentError, make_plain_text, make_text, weigh_text};
 use crate::parting::{cut_member, cut_ref, cut_tag, letter_of};
 use osm_entity::{Bytes, Cause, Kind, Member, NoMemory, Tag};
 use osm_text::{escape, read_whole, write_whole};
@@ -38,6 +38,16 @@ pub(crate) trait Part: Drop {
     fn make(alloc: Global, bytes: &[u8], len: usize) -> Result<Self, ContentError>
         requires within { len ≤ length bytes.now }
         requires utf8 { IsUtf8 (take len bytes.now) }
+        ensures value { IfOk result (λ value. says (take len bytes.now) ≡ Ok value) }
+        ensures light { IfOk result (λ value. weight value ≤ 32 + len) }
+        ensures refused { (cause : Cause) → result ≡ Err (ContentError.Bad cause) →
+            says (take len bytes.now) ≡ Err cause };
+
+    /// The same of a part in which there is no `%`.
+    fn make_plain(alloc: Global, bytes: &[u8], len: usize) -> Result<Self, ContentError>
+        requires within { len ≤ length bytes.now }
+        requires utf8 { IsUtf8 (take len bytes.now) }
+        requires plain { HasNoEscape (take len bytes.now) }
         ensures value { IfOk result (λ value. says (take len bytes.now) ≡ Ok value) }
         ensures light { IfOk result (λ value. weight value ≤ 32 + len) }
         ensures refused { (cause : Cause) → result ≡ Err (ContentError.Bad cause) →
@@ -81,6 +91,16 @@ impl Part for Tag {
         Ok(Tag { key, value })
     }
 
+    fn make_plain(alloc: Global, bytes: &[u8], len: usize) -> Result<Self, ContentError> {
+        let Some((key, value)) = cut_tag(&bytes[..len]) else {
+            return Err(ContentError::Bad(Cause::BadField));
+        };
+        let value_at = key.len() + 1;
+        let key = make_plain_text(alloc, bytes, key.len())?;
+        let value = make_plain_text(alloc, &bytes[value_at..], value.len())?;
+        Ok(Tag { key, value })
+    }
+
     fn weighs(&self) -> u64 {
         32 + self.key.as_slice().len() as u64 + self.value.as_slice().len() as u64
     }
@@ -119,6 +139,10 @@ impl Part for i64 {
         }
     }
 
+    fn make_plain(alloc: Global, bytes: &[u8], len: usize) -> Result<Self, ContentError> {
+        Self::make(alloc, bytes, len)
+    }
+
     fn weighs(&self) -> u64 {
         32
     }
@@ -155,6 +179,10 @@ impl Part for Member {
         };
         let role = make_text(alloc, role, role.len())?;
         Ok(Member { kind, id, role })
+    }
+
+    fn make_plain(alloc: Global, bytes: &[u8], len: usize) -> Result<Self, ContentError> {
+        Self::make(alloc, bytes, len)
     }
 
     fn weighs(&self) -> u64 {

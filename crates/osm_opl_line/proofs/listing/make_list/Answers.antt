@@ -5,13 +5,18 @@ use Rattle.osm_opl_line.proofs.StartLemmas.{bad-handed_on, take-part}
 use Rattle.osm_opl_line.proofs.WeighingLemmas.{length-split}
 use Rattle.osm_opl_line.proofs.listing.make_list.Goals as goal
 
-pub make-requires-clause-within : goal.make-requires-clause-within
-make-requires-clause-within g c =
+pub make_part-requires-clause-within : goal.make_part-requires-clause-within
+make_part-requires-clause-within g c =
     let split = length-split c.loop-part.rest.now c.in-Some.part.now c.in-Some.more.now c.in-Some.ensures.some in
     omega arith
 
-pub make-requires-clause-utf8 : goal.make-requires-clause-utf8
-make-requires-clause-utf8 g c =
+pub make_part-requires-clause-plain : goal.make_part-requires-clause-plain
+make_part-requires-clause-plain g c = λ is_plain.
+    rw (take-part c.loop-part.rest.now c.in-Some.part.now c.in-Some.more.now c.in-Some.ensures.some)
+    (c.in-Some.ensures.plain is_plain)
+
+pub make_part-requires-clause-utf8 : goal.make_part-requires-clause-utf8
+make_part-requires-clause-utf8 g c =
     rw (take-part c.loop-part.rest.now c.in-Some.part.now c.in-Some.more.now c.in-Some.ensures.some)
     (IsUtf8-parts 44 c.loop-part.rest.now c.in-Some.part.now c.in-Some.more.now (omega arith) c.in-Some.ensures.some
     c.loop-part.invariant.utf8).0
