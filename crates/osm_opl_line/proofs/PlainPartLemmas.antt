@@ -24,9 +24,9 @@ before-fails : (test : ℕ → Bool) (bytes : List ℕ) → position_or_len test
 before-fails test bytes within =
     All-from_get_or (λ b. test b ≡ false) (before_first test bytes) 0
     (λ i below.
-      let front : i < position_or_len test bytes = grind (arith, common_steps) in
-      let same : get_or (take (position_or_len test bytes) bytes) i 0 ≡ get_or bytes i 0 = grind (arith, common_steps) in
-      rw same (fails_before_first test bytes i 0 front))
+    let front : i < position_or_len test bytes = grind (arith, common_steps) in
+    let same : get_or (take (position_or_len test bytes) bytes) i 0 ≡ get_or bytes i 0 = grind (arith, common_steps) in
+    rw same (fails_before_first test bytes i 0 front))
 
 -- there is no % before the first comma or %
 pub plain-part : (bytes : List ℕ) (at : ℕ) → Some at ≡ position (is_one_of_two 44 37) bytes →

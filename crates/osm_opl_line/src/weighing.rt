@@ -12,8 +12,8 @@ use osm_entity::{Cause, Sequence, Text};
 use osm_text::first_part;
 use std::alloc::Global;
 
-/// The most bytes of a content that is made before the whole line is known to be good. So a bad or
-/// too heavy line takes no more memory than its list, which is at most thirty times as long.
+/// The most bytes of a content that is made before the whole line is known to be good. So a bad line
+/// takes at most some 6 MB, and no list of one that is too heavy is made past this.
 const MOST_MADE: usize = 65_536;
 
 /// What a content weighs, and its value where it was made.
