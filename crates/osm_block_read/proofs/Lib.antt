@@ -12,4 +12,5 @@ pub mod RowLemmas
 pub mod SumLemmas
 pub mod TableLemmas
 pub mod TagLemmas
+pub mod UsualLemmas
 pub mod WayLemmas

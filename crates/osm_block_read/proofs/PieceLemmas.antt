@@ -13,7 +13,7 @@ use Rattle.osm_entity.specs.declared.parts.Tag.{Tag}
 use Rattle.osm_entity.specs.declared.verdict.Cause.{Cause}
 use Rattle.osm_entity.specs.declared.verdict.Cause.TheVariants.{BadLengths, BadIndex, BadField, BadCoordinate, BadTime, Deleted, TooHeavy}
 use Rattle.osm_block_read.specs.Entries.{Entry, SettingValue, entry_body, entry_entity, entry_tag, seconds_at, text_at}
-use Rattle.osm_block_read.specs.Faults.{entry_fault, has_empty_key, has_indexes, last_second}
+use Rattle.osm_block_read.specs.Faults.{entry_fault, has_body_indexes, has_empty_key, has_indexes, is_tag_index, is_user_index, last_second}
 use Rattle.osm_block_read.specs.Spans.{part_in}
 use Rattle.osm_block_read.specs.declared.entry.EntryTag.{EntryTag}
 use Rattle.osm_block_read.specs.declared.span.Span.{Span}
@@ -54,7 +54,8 @@ some_none : (cause : Cause) → ◌≡◌ {A = Option Cause} (Some cause) None �
 some_none cause is = cc
 
 -- where there is no cause no test holds
-chain-none : (a b c d e f g : Bool) → chain a b c d e f g ≡ None → (c ≡ false) × (d ≡ false) × (e ≡ false) × (g ≡ false)
+chain-none : (a b c d e f g : Bool) → chain a b c d e f g ≡ None →
+    (b ≡ false) × (c ≡ false) × (d ≡ false) × (e ≡ false) × (g ≡ false)
 chain-none true b c d e f g is = absurd (some_none BadLengths is)
 chain-none false true c d e f g is = absurd (some_none BadIndex is)
 chain-none false false true d e f g is = absurd (some_none BadField is)
@@ -62,15 +63,16 @@ chain-none false false false true e f g is = absurd (some_none BadCoordinate is)
 chain-none false false false false true f g is = absurd (some_none BadTime is)
 chain-none false false false false false true g is = absurd (some_none Deleted is)
 chain-none false false false false false false true is = absurd (some_none TooHeavy is)
-chain-none false false false false false false false is = (refl, refl, refl, refl)
+chain-none false false false false false false false is = (refl, refl, refl, refl, refl)
 
 -- what isn't not true is true
-not_false : (b : Bool) → not b ≡ false → b ≡ true
+pub not_false : (b : Bool) → not b ≡ false → b ≡ true
 not_false true is = refl
 not_false false is = absurd (false≢true (sym is))
 
 -- what holds of an entry with which nothing is wrong
 pub record IsFine (s : SettingValue) (e : Entry) : Type 0 where
+  pub indexes : has_indexes s.texts e ≡ true
   pub keys : list_any (has_empty_key s.texts) e.tags ≡ false
   pub fits : body_fits (entry_body s e.body) ≡ true
   pub time : seconds_at s.date_granularity e.info.timestamp ≤ last_second
@@ -84,11 +86,20 @@ fine-parts s e fine =
     (not (body_fits (entry_body s e.body))) (nat_lt last_second (seconds_at s.date_granularity e.info.timestamp))
     (not e.info.visible) (nat_lt greatest_weight (weight_of (entry_entity s e))) fine in
     record {
-      keys = parts.0;
-      fits = not_false (body_fits (entry_body s e.body)) parts.1;
-      time = ltb-false last_second (seconds_at s.date_granularity e.info.timestamp) parts.2;
-      light = ltb-false greatest_weight (weight_of (entry_entity s e)) parts.3;
+      indexes = not_false (has_indexes s.texts e) parts.0;
+      keys = parts.1;
+      fits = not_false (body_fits (entry_body s e.body)) parts.2;
+      time = ltb-false last_second (seconds_at s.date_granularity e.info.timestamp) parts.3;
+      light = ltb-false greatest_weight (weight_of (entry_entity s e)) parts.4;
     }
+
+-- the indexes of its tags are those of texts
+pub fine-tags : (s : SettingValue) (e : Entry) → entry_fault s e ≡ None →
+    list_all (is_tag_index s.texts) e.tags ≡ true
+fine-tags s e fine =
+    and_left (list_all (is_tag_index s.texts) e.tags) (is_user_index s.texts e.info.user)
+    (and_left (list_all (is_tag_index s.texts) e.tags && is_user_index s.texts e.info.user)
+    (has_body_indexes s.texts e.body) (fine-parts s e fine).indexes)
 
 -- where none of two is true, neither is
 or_left : (a b : Bool) → a || b ≡ false → a ≡ false

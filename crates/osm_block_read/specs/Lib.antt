@@ -19,4 +19,5 @@ pub mod Spans
 pub mod Strings
 pub mod Table
 pub mod Told
+pub mod Usual
 pub mod WayCodes

@@ -1,8 +1,10 @@
 //! Makes the parts of the item of an entity of a block.
 ghost use Rattle.std.specs.Prelude.{◌≡◌, ◌<◌, ◌^◌, map, true, IfOk};
+ghost use Rattle.std.specs.List.{list_all};
 ghost use Rattle.osm_entity.specs.Counts.{counted};
 ghost use Rattle.osm_entity.specs.Entities.{body_fits};
 ghost use Rattle.osm_block_read.specs.Entries.{entry_body, entry_member, entry_tag, kind_of_number, text_at};
+ghost use Rattle.osm_block_read.specs.Faults.{is_tag_index};
 ghost use Rattle.osm_block_read.specs.Seen.{body_seen};
 
 use crate::entry::{EntryMember, EntryTag};
@@ -22,22 +24,39 @@ pub(crate) fn make_text(alloc: Global, setting: &Setting<'_>, index: i64) -> Res
     }
 }
 
-/// The tags of indexes.
+/// The tags of indexes, which are those of texts.
 pub(crate) fn make_tags(
     alloc: Global,
     setting: &Setting<'_>,
     tags: &[EntryTag],
 ) -> Result<Tags, NoMemory>
+    requires { list_all (is_tag_index setting.now.texts) tags.now ≡ true }
     ensures { IfOk result (λ made. made ≡ map (entry_tag setting.now) tags.now) }
 {
     let mut made = Tags::with_room(alloc, tags.len())?;
     for tag in tags {
-        made.push(Tag {
-            key: make_text(alloc, setting, tag.key)?,
-            value: make_text(alloc, setting, tag.value)?,
-        })?;
+        let key = setting.known_text(tag.key);
+        let value = setting.known_text(tag.value);
+        if let Some(key) = key.copy_short()
+            && let Some(value) = value.copy_short()
+        {
+            made.push_near(Tag { key, value })?;
+        } else {
+            made.push_near(copy_tag(alloc, key, value)?)?;
+        }
     }
     Ok(made)
+}
+
+// A tag of texts that may take memory.
+#[inline(never)]
+fn copy_tag(alloc: Global, key: &Text, value: &Text) -> Result<Tag, NoMemory>
+    ensures { IfOk result (λ tag. (tag.key ≡ key.now) × (tag.value ≡ value.now)) }
+{
+    Ok(Tag {
+        key: key.copy(alloc)?,
+        value: value.copy(alloc)?,
+    })
 }
 
 /// The place, the refs or the members.

@@ -121,8 +121,9 @@ fn find_fault(rows: &Rows, setting: &Setting<'_>) -> Option<Cause>
     requires { AreRowsIn rows.now }
     ensures { result ≡ entries_fault setting.now (entries_of rows.now) }
 {
+    let usual = setting.is_usual();
     for at in 0..rows.rows.len() {
-        if let Some(cause) = setting.fault(&rows.entry(at)) {
+        if let Some(cause) = setting.fault(usual, &rows.entry(at)) {
             return Some(cause);
         }
     }

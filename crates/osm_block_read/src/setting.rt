@@ -45,6 +45,13 @@ impl<'a> Setting<'a> {
         Setting { texts, scale }
     }
 
+    /// Its texts.
+    pub(crate) fn texts(&self) -> &'a [Text]
+        ensures { result.now ≡ self.now.texts }
+    {
+        self.texts
+    }
+
     /// How many texts it has.
     pub(crate) fn count(&self) -> usize
         ensures { result ≡ length self.now.texts }
@@ -67,6 +74,18 @@ impl<'a> Setting<'a> {
     {
         let at = if index < 0 { 0 } else { index as usize };
         self.texts.get(at)
+    }
+
+    /// The text of an index, which is known to be that of one.
+    #[inline(always)]
+    pub(crate) fn known_text(&self, index: i64) -> &'a Text
+        requires { is_index_below (length self.now.texts) index ≡ true }
+        ensures { result.now ≡ text_at self.now.texts index }
+    {
+        match self.texts.get(index as usize) {
+            Some(text) => text,
+            None => unreachable!(),
+        }
     }
 
     /// The bytes of the text of an index. There are none past the last.

@@ -90,6 +90,20 @@ impl<T: Drop> Sequence<T> {
         }
     }
 
+    /// Adds an element at the back, in fewer steps than `push` where there is room for it.
+    #[inline(always)]
+    pub fn push_near(&mut self, item: T) -> Result<(), NoMemory>
+        ensures ok { OnOk result (self.new ≡ self.old ++ item ∷ []) }
+        ensures err { OnErr result (self.new ≡ self.old) }
+    {
+        if self.items.len() < self.items.capacity() {
+            self.items.push_reserved(item);
+            Ok(())
+        } else {
+            self.push(item)
+        }
+    }
+
     /// Puts an element in the place of the one at `at`. It takes no memory.
     pub fn set(&mut self, at: usize, item: T)
         requires { at < length self.old }

@@ -2,7 +2,7 @@
 //!
 //! Keys, values, roles and user names are nearly always short, and to take and give back a block
 //! costs more than all else that is done with them.
-ghost use Rattle.std.specs.Prelude.{◌≡◌, ◌≤◌, [], length, take, IfOk};
+ghost use Rattle.std.specs.Prelude.{◌≡◌, ◌≤◌, [], length, take, IfOk, IfSome};
 ghost use Rattle.osm_entity.specs.Storage.{text_room, stored_bytes, FitsRoom};
 
 use crate::sequence::NoMemory;
@@ -108,6 +108,22 @@ impl Storage {
         match self {
             Storage::Short { len, bytes } => &bytes[..*len as usize],
             Storage::Long(bytes) => bytes.as_slice(),
+        }
+    }
+
+    /// Storage with the same bytes, where they are few. `None` where they take memory.
+    #[inline(always)]
+    pub(crate) fn copy_short(&self) -> Option<Self>
+        requires { FitsRoom self.now }
+        ensures value { IfSome result (λ s. stored_bytes s ≡ stored_bytes self.now) }
+        ensures fits { IfSome result FitsRoom }
+    {
+        match self {
+            Storage::Short { len, bytes } => Some(Storage::Short {
+                len: *len,
+                bytes: *bytes,
+            }),
+            Storage::Long(_) => None,
         }
     }
 

@@ -1,5 +1,5 @@
 //! Text: UTF-8 bytes, as file names, keys, values, roles and users have them.
-ghost use Rattle.std.specs.Prelude.{◌≡◌, ◌≤◌, ◌↔◌, [], length, take, IfOk, OnOk, IsErrOf, IsTrue};
+ghost use Rattle.std.specs.Prelude.{◌≡◌, ◌≤◌, ◌↔◌, [], length, take, IfOk, IfSome, OnOk, IsErrOf, IsTrue};
 ghost use Rattle.std.specs.Str.{IsUtf8};
 ghost use Rattle.osm_entity.specs.declared.text.TextError.TheVariants.{BadText};
 
@@ -98,6 +98,15 @@ impl Text {
     {
         let storage = self.storage.copy(alloc)?;
         Ok(Text { storage })
+    }
+
+    /// An equal text, where it takes no memory: up to 22 bytes do. `None` where it takes some.
+    #[inline(always)]
+    pub fn copy_short(&self) -> Option<Self>
+        ensures { IfSome result (λ t. t ≡ self.now) }
+    {
+        let storage = self.storage.copy_short()?;
+        Some(Text { storage })
     }
 
     /// Whether the two have the same bytes.

@@ -3,7 +3,7 @@ use Rattle.osm_entity.specs.Counts.{counted}
 use Rattle.osm_block_read.specs.Entries.{seconds_at, text_at}
 use Rattle.osm_block_read.specs.Faults.{last_second}
 use Rattle.osm_block_read.specs.Seen.{entry_seen}
-use Rattle.osm_block_read.proofs.PieceLemmas.{entity-kept, entity-made, fine-parts}
+use Rattle.osm_block_read.proofs.PieceLemmas.{entity-kept, entity-made, fine-parts, fine-tags}
 use Rattle.osm_block_read.proofs.piece.Piece.item.Goals as goal
 
 pub unreachable-requires : goal.unreachable-requires
@@ -14,6 +14,9 @@ unreachable-requires c =
     let late = subst (λ (t : ℤ). last_second < seconds_at c.self.inside.setting.date_granularity t) same
     c.in_default.ensures.none in
     omega (arith, fine.time, late)
+
+pub make_tags-requires : goal.make_tags-requires
+make_tags-requires c = fine-tags c.self.inside.setting (entry_seen c.self.inside.entry) c.self.invariant.fine
 
 pub make_body-requires : goal.make_body-requires
 make_body-requires c =
