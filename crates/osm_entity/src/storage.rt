@@ -133,12 +133,9 @@ impl Storage {
         ensures value { IfOk result (λ s. stored_bytes s ≡ stored_bytes self.now) }
         ensures fits { IfOk result FitsRoom }
     {
-        match self {
-            Storage::Short { len, bytes } => Ok(Storage::Short {
-                len: *len,
-                bytes: *bytes,
-            }),
-            Storage::Long(bytes) => Storage::long(alloc, bytes.as_slice()),
+        match self.copy_short() {
+            Some(short) => Ok(short),
+            None => Storage::long(alloc, self.as_slice()),
         }
     }
 }
