@@ -23,6 +23,7 @@ mod row;
 mod setting;
 mod span;
 mod table;
+mod usual;
 mod way_codes;
 
 pub use error::BlockError;
