@@ -19,7 +19,10 @@ pub(crate) fn make_text(alloc: Global, setting: &Setting<'_>, index: i64) -> Res
     ensures { IfOk result (λ text. text ≡ text_at setting.now.texts index) }
 {
     match setting.find_text(index) {
-        Some(text) => text.copy(alloc),
+        Some(text) => match text.copy_short() {
+            Some(short) => Ok(short),
+            None => text.copy(alloc),
+        },
         None => Ok(Text::new(alloc)),
     }
 }
@@ -40,9 +43,9 @@ pub(crate) fn make_tags(
         if let Some(key) = key.copy_short()
             && let Some(value) = value.copy_short()
         {
-            made.push_near(Tag { key, value })?;
+            made.push_in_room(Tag { key, value })?;
         } else {
-            made.push_near(copy_tag(alloc, key, value)?)?;
+            made.push_in_room(copy_tag(alloc, key, value)?)?;
         }
     }
     Ok(made)

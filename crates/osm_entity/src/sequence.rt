@@ -90,9 +90,10 @@ impl<T: Drop> Sequence<T> {
         }
     }
 
-    /// Adds an element at the back, in fewer steps than `push` where there is room for it.
+    /// Adds an element at the back, where there is room for it: it takes no memory. At `Err` there
+    /// is none, and the list is as it was.
     #[inline(always)]
-    pub fn push_near(&mut self, item: T) -> Result<(), NoMemory>
+    pub fn push_in_room(&mut self, item: T) -> Result<(), NoMemory>
         ensures ok { OnOk result (self.new ≡ self.old ++ item ∷ []) }
         ensures err { OnErr result (self.new ≡ self.old) }
     {
@@ -100,7 +101,7 @@ impl<T: Drop> Sequence<T> {
             self.items.push_reserved(item);
             Ok(())
         } else {
-            self.push(item)
+            Err(NoMemory)
         }
     }
 
