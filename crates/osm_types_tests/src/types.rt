@@ -44,11 +44,22 @@ fn texts_hold<R: Abort + AllocGlobal>(rt: &R) -> bool {
     );
     let copy = many.copy(rt.alloc()).expect(rt, "a copy");
     let known = Text::from_utf8(rt.alloc(), copy.as_slice()).expect(rt, "a known text");
-    known.is(&many) && !known.is(&few) && Text::new(rt.alloc()).as_slice().is_empty()
+    let short = match few.copy_short() {
+        Some(short) => short.is(&few),
+        None => false,
+    };
+    known.is(&many)
+        && !known.is(&few)
+        && short
+        && text(rt, b"addr:interpolation:number")
+            .copy_short()
+            .is_none()
+        && Text::new(rt.alloc()).as_slice().is_empty()
 }
 
 fn lists_hold<R: Abort + AllocGlobal>(rt: &R) -> bool {
     let mut bytes = Bytes::with_room(rt.alloc(), 2).expect(rt, "room");
+    bytes.push_in_room(b'o').expect(rt, "a byte in room");
     bytes.append(b"node").expect(rt, "bytes");
     bytes.push(b's').expect(rt, "a byte");
     let last = bytes.pop();
