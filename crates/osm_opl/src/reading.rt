@@ -155,7 +155,7 @@ impl OplReader {
     {
         while self.is_running() {
             match self.find_line()? {
-                Found::Line(count, past) => {
+                Found::Line { count, past } => {
                     match read_line(self.alloc, self.unread.line(count), self.flow)? {
                         LineRead::Item(item) => {
                             self.pass(past);
@@ -189,11 +189,11 @@ impl OplReader {
         ensures err { OnErr result (SameRest self.old self.new) }
     {
         match self.unread.find_line()? {
-            Found::Line(count, past) => Ok(Found::Line(count, past)),
+            Found::Line { count, past } => Ok(Found::Line { count, past }),
             Found::TooLong(past) => Ok(Found::TooLong(past)),
             Found::Unfinished => {
                 if self.has_last() {
-                    return Ok(Found::Line(0, 0));
+                    return Ok(Found::Line { count: 0, past: 0 });
                 }
                 Ok(Found::Unfinished)
             }

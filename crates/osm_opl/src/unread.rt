@@ -26,9 +26,13 @@ const LONGEST_LINE: usize = 16_777_216;
 /// What the unread bytes begin with.
 #[derive(Clone, Copy)]
 pub(crate) enum Found {
-    /// A line: what is held, or that many bytes of the piece where nothing is held. With its
-    /// newline it takes so many bytes of the piece.
-    Line(usize, usize),
+    /// A line.
+    Line {
+        /// Its bytes in the piece, where nothing is held; else it is what is held.
+        count: usize,
+        /// The bytes of the piece that it takes with its newline.
+        past: usize,
+    },
     /// A line that is too long, whether it is at its end or not. It takes so many bytes of the
     /// piece.
     TooLong(usize),
@@ -228,10 +232,10 @@ impl Unread {
             return Ok(Found::TooLong(count + 1));
         }
         if self.held.len() == 0 {
-            return Ok(Found::Line(count, count + 1));
+            return Ok(Found::Line { count, past: count + 1 });
         }
         self.hold(count)?;
-        Ok(Found::Line(0, 1))
+        Ok(Found::Line { count: 0, past: 1 })
     }
 
     // Holds the piece, which ends no line, unless that is too much for a line.
