@@ -33,8 +33,8 @@ pub(crate) enum Found {
         /// The bytes of the piece that it takes with its newline.
         past: usize,
     },
-    /// A line that is too long, whether it is at its end or not. It takes so many bytes of the
-    /// piece.
+    /// A line that is too long, whether it is at its end or not, and the bytes of the piece that
+    /// it takes.
     TooLong(usize),
     /// A line that isn't at its end, or nothing.
     Unfinished,
