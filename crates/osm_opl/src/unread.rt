@@ -232,7 +232,10 @@ impl Unread {
             return Ok(Found::TooLong(count + 1));
         }
         if self.held.len() == 0 {
-            return Ok(Found::Line { count, past: count + 1 });
+            return Ok(Found::Line {
+                count,
+                past: count + 1,
+            });
         }
         self.hold(count)?;
         Ok(Found::Line { count: 0, past: 1 })
