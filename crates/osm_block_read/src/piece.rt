@@ -62,9 +62,6 @@ impl<'a> Piece<'a> {
             tags,
             body,
         };
-        Ok(Item {
-            act: Act::Keep,
-            entity,
-        })
+        Item::new(alloc, Act::Keep, entity)
     }
 }

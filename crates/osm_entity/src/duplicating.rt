@@ -14,7 +14,7 @@ impl Item {
     {
         let act = self.act;
         let entity = copy_entity(alloc, &self.entity)?;
-        Ok(Item { act, entity })
+        Item::new(alloc, act, entity)
     }
 }
 

@@ -6,6 +6,7 @@ ghost use Rattle.std.specs.Int.{w64};
 ghost use Rattle.osm_entity.specs.Writable.{IsBodyText, IsMemberText, IsTagText, IsWritable, Says};
 ghost use Rattle.osm_entity.specs.declared.kind.Flow.{Flow};
 
+use crate::entity::Entity;
 use crate::item::Item;
 use crate::parts::{Body, Member, Tag};
 
@@ -15,7 +16,7 @@ impl Item {
         ensures { (flow : Flow) → Says flow self.now.act → IsWritable flow self.now }
     {
         self.kept();
-        let entity = &self.entity;
+        let entity: &Entity = &self.entity;
         entity.kept();
         let _id = entity.id;
         let _time = entity.time;

@@ -1,10 +1,11 @@
 //! An item of a stream: an entity, and what is done with it.
-ghost use Rattle.std.specs.Prelude.{◌≡◌};
+ghost use Rattle.std.specs.Prelude.{◌≡◌, IfOk};
 
 use crate::entity::Entity;
 use crate::kind::{Key, Kind};
 use crate::parts::Body;
-use crate::sequence::Sequence;
+use crate::sequence::{NoMemory, Sequence};
+use std::alloc::Global;
 use std::marker::Model;
 
 /// What a stream says of an entity.
@@ -25,7 +26,8 @@ pub enum Act {
 #[derive(Debug, Drop)]
 pub struct Item {
     pub act: Act,
-    pub entity: Entity,
+    /// In a box, so that an item is moved from task to task as two words.
+    pub entity: Box<Entity>,
 }
 
 /// Items in the order of their stream.
@@ -36,13 +38,24 @@ impl Model for Item {
 
     ghost Value = { ItemValue };
 
-    ghost view = { λ i. record { act = i.act; entity = i.entity } };
+    ghost view = { λ i. record { act = i.act; entity = i.entity.value } };
 
-    ghost invariant = { λ i. IsItem (record { act = i.act; entity = i.entity }) };
+    ghost invariant = { λ i. IsItem (record { act = i.act; entity = i.entity.value }) };
 }
 
 impl Item {
     ghost use Rattle.osm_entity.specs.Items.{IsItem, key_of};
+
+    /// An item of an entity. `NoMemory` where the entity has no room.
+    pub fn new(alloc: Global, act: Act, entity: Entity) -> Result<Item, NoMemory>
+        requires { IsItem (record { act = act; entity = entity }) }
+        ensures { IfOk result (λ item. item ≡ record { act = act; entity = entity }) }
+    {
+        match Box::new(alloc, entity) {
+            Ok(entity) => Ok(Item { act, entity }),
+            Err(_) => Err(NoMemory),
+        }
+    }
 
     /// What every item keeps.
     pub fn kept(&self)

@@ -53,26 +53,24 @@ fn nodes_of(count: u32) -> u32
 }
 
 // An item of this id, with the metadata that all have.
-fn item(alloc: Global, id: u32, tags: Tags, body: Body) -> Item
+fn item(alloc: Global, id: u32, tags: Tags, body: Body) -> Result<Item, NoMemory>
     requires named { All (λ tag. tag.key ≢ []) tags }
     requires light { sum_by tag_weight tags + body_weight body ≤ 1000 }
     requires fits { IsTrue (body_fits body) }
     requires placed { IsTrue (has_place body) }
-    ensures { result ≡ made_item id tags body }
+    ensures { IfOk result (λ item. item ≡ made_item id tags body) }
 {
-    Item {
-        act: Act::Keep,
-        entity: Entity {
-            id: i64::from(id),
-            version: 1,
-            time: TIME,
-            changeset: 1,
-            uid: 0,
-            user: Text::new(alloc),
-            tags,
-            body,
-        },
-    }
+    let entity = Entity {
+        id: i64::from(id),
+        version: 1,
+        time: TIME,
+        changeset: 1,
+        uid: 0,
+        user: Text::new(alloc),
+        tags,
+        body,
+    };
+    Item::new(alloc, Act::Keep, entity)
 }
 
 /// Makes node `n`.
@@ -83,7 +81,7 @@ pub(crate) fn make_node(alloc: Global, seed: u32, n: u32) -> Result<Item, NoMemo
         lon: longitude(number(seed, n, 0)),
         lat: latitude(number(seed, n, 1)),
     };
-    Ok(item(alloc, n, Tags::new(alloc), Body::Node(Some(place))))
+    item(alloc, n, Tags::new(alloc), Body::Node(Some(place)))
 }
 
 // The tags of way `n`.
@@ -116,7 +114,7 @@ pub(crate) fn make_way(alloc: Global, count: u32, seed: u32, n: u32) -> Result<I
             id_of(nodes, number(seed, n, 3)),
         ],
     )?;
-    Ok(item(alloc, n, tags_of(alloc, n)?, Body::Way(refs)))
+    item(alloc, n, tags_of(alloc, n)?, Body::Way(refs))
 }
 
 /// Makes relation `n` among `count` entities.
@@ -135,5 +133,5 @@ pub(crate) fn make_relation(alloc: Global, count: u32, seed: u32, n: u32) -> Res
         id: id_of(nodes_of(count), number(seed, n, 1)),
         role: Text::new(alloc),
     })?;
-    Ok(item(alloc, n, Tags::new(alloc), Body::Relation(members)))
+    item(alloc, n, Tags::new(alloc), Body::Relation(members))
 }

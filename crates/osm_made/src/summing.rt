@@ -5,7 +5,7 @@ ghost use Rattle.osm_entity.specs.Items.{ItemValue};
 ghost use Rattle.osm_made.specs.Summaries.{StandsForItems, capped, summary_line, summary_lines, summary_of};
 
 use itoa::Buffer;
-use osm_entity::{Body, Bytes, Item, NoMemory, weight};
+use osm_entity::{Body, Bytes, Entity, Item, NoMemory, weight};
 use std::alloc::Global;
 use std::marker::Model;
 
@@ -62,7 +62,7 @@ impl Summary {
         ensures { (items : List ItemValue) → StandsForItems self.old items →
             StandsForItems self.new (items ++ item.now ∷ []) }
     {
-        let entity = &item.entity;
+        let entity: &Entity = &item.entity;
         match &entity.body {
             Body::Node(_) => self.nodes = self.nodes.saturating_add(1),
             Body::Way(refs) => {

@@ -3,7 +3,7 @@ ghost use Rattle.std.specs.Prelude.{◌≡◌};
 ghost use Rattle.osm_merge.specs.Choices.{prefers_first, chosen_by, chosen_by_is_choice};
 ghost use Rattle.osm_merge.specs.Rules.{Choice, IsChoice};
 
-use osm_entity::{Item, Resolution};
+use osm_entity::{Entity, Item, Resolution};
 
 /// What a task of two sorted inputs gives at a key: nothing where neither input has an item there,
 /// and else nothing or an item of that key.
@@ -20,8 +20,8 @@ pub trait Chooser {
 fn is_preferred(resolution: Resolution, first: &Item, second: &Item) -> bool
     ensures { result ≡ prefers_first resolution first.now second.now }
 {
-    let first = &first.entity;
-    let second = &second.entity;
+    let first: &Entity = &first.entity;
+    let second: &Entity = &second.entity;
     match resolution {
         Resolution::Version => {
             second.version < first.version

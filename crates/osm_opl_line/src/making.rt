@@ -74,7 +74,7 @@ impl<'a> Line<'a> {
             body,
         };
         let act = act_of(self.flow, numbers.deleted, numbers.version);
-        Ok(Item { act, entity })
+        Item::new(alloc, act, entity)
     }
 }
 

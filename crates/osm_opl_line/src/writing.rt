@@ -34,9 +34,10 @@ fn append_line(out: &mut Bytes, item: &Item) -> Result<(), NoMemory>
     ensures ok { OnOk result (out.new ≡ out.old ++ line_text item.now) }
     ensures err { OnErr result (IsPrefix out.old out.new) }
 {
+    let entity: &Entity = &item.entity;
     append_head(out, item)?;
-    append_author(out, &item.entity)?;
-    append_lists(out, &item.entity)?;
+    append_author(out, entity)?;
+    append_lists(out, entity)?;
     out.push(b'\n')
 }
 
@@ -45,7 +46,7 @@ fn append_head(out: &mut Bytes, item: &Item) -> Result<(), NoMemory>
     ensures ok { OnOk result (out.new ≡ out.old ++ head_text item.now) }
     ensures err { OnErr result (IsPrefix out.old out.new) }
 {
-    let entity = &item.entity;
+    let entity: &Entity = &item.entity;
     append_id(out, item.key().kind, entity.id)?;
     append_number(out, b" v", i64::from(entity.version))?;
     append_number(out, act_field(item.act), entity.changeset as i64)

@@ -2,7 +2,7 @@
 ghost use Rattle.std.specs.Prelude.{◌≡◌, false};
 ghost use Rattle.osm_entity.specs.Ports.{has_end};
 
-use osm_entity::{Act, Body, End, Entity, Item, Message, Refs, Tags, Text};
+use osm_entity::{Act, Body, End, Entity, Item, Message, NoMemory, Refs, Tags, Text};
 use osm_pipe::{Giver, Sent, Taken, Taker, bounded, meet, spool};
 use std::alloc::Global;
 use std::process::Abort;
@@ -23,20 +23,18 @@ impl Promise<Sent> for OfOnePipe {
     ghost kept_by = { λ p sent. sent.pipe ≡ p.0.value.pipe };
 }
 
-fn way(alloc: Global, id: i64) -> Item {
-    Item {
-        act: Act::Keep,
-        entity: Entity {
-            id,
-            version: 1,
-            time: 0,
-            changeset: 0,
-            uid: 0,
-            user: Text::new(alloc),
-            tags: Tags::new(alloc),
-            body: Body::Way(Refs::new(alloc)),
-        },
-    }
+fn way(alloc: Global, id: i64) -> Result<Item, NoMemory> {
+    let entity = Entity {
+        id,
+        version: 1,
+        time: 0,
+        changeset: 0,
+        uid: 0,
+        user: Text::new(alloc),
+        tags: Tags::new(alloc),
+        body: Body::Way(Refs::new(alloc)),
+    };
+    Item::new(alloc, Act::Keep, entity)
 }
 
 /// Gives all items and then the end.
@@ -44,7 +42,10 @@ fn give_all<R: Wait>(rt: &R, alloc: Global, mut giver: Giver, end: End) -> Sent
     ensures { result.pipe ≡ giver.pipe }
 {
     for id in 0..ITEMS {
-        if giver.give(rt, way(alloc, id)).is_err() {
+        let Ok(way) = way(alloc, id) else {
+            break;
+        };
+        if giver.give(rt, way).is_err() {
             break;
         }
     }

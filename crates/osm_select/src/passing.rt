@@ -15,7 +15,7 @@ ghost use Rattle.osm_select.specs.Parts.{lies_inside};
 use crate::keys::Keys;
 use crate::order::Order;
 use osm_area::Area;
-use osm_entity::{Body, End, Item, Message, NoMemory, Verdict, Want};
+use osm_entity::{Body, End, Entity, Item, Message, NoMemory, Verdict, Want};
 use std::alloc::Global;
 
 /// Passes on the items that an area keeps, in their order, and then its end.
@@ -49,7 +49,7 @@ pub(crate) fn is_inside(area: &Area, body: &Body) -> bool
 fn keeps(area: &Area, kept: &Keys, item: &Item) -> bool
     ensures { result ≡ is_kept area.now (sets_of kept.now) item.now }
 {
-    let entity = &item.entity;
+    let entity: &Entity = &item.entity;
     is_inside(area, &entity.body)
         || kept.has_part(&entity.body)
         || kept.stays(entity.id, &entity.body)

@@ -12,14 +12,14 @@ use crate::keys::Keys;
 use crate::links::Links;
 use crate::passing::is_inside;
 use osm_area::Area;
-use osm_entity::{Body, Held, Item, Kind, Member, NoMemory, Sequence};
+use osm_entity::{Body, Entity, Held, Item, Kind, Member, NoMemory, Sequence};
 use std::alloc::Global;
 
 fn add_inside(ids: &mut Ids, area: &Area, item: &Item) -> Result<(), NoMemory>
     ensures { OnOk result (among ids.new ≡ cond (lies_inside area.now item.now.entity.body)
         (with_id item.now.entity.id (among ids.old)) (among ids.old)) }
 {
-    let entity = &item.entity;
+    let entity: &Entity = &item.entity;
     ids.add_if(is_inside(area, &entity.body), entity.id)
 }
 
@@ -47,7 +47,7 @@ fn add_touching(ids: &mut Ids, nodes: &Ids, item: &Item) -> Result<(), NoMemory>
     ensures { OnOk result (among ids.new ≡ cond (touches (among nodes.now) item.now.entity.body)
         (with_id item.now.entity.id (among ids.old)) (among ids.old)) }
 {
-    let entity = &item.entity;
+    let entity: &Entity = &item.entity;
     ids.add_if(touches(nodes, &entity.body), entity.id)
 }
 
@@ -138,7 +138,7 @@ fn draw_item(
     ensures links { OnOk result (linked links.new ≡ with_links item.now.entity.id
         (λ n. names_relation n item.now.entity.body) (linked links.old)) }
 {
-    let entity = &item.entity;
+    let entity: &Entity = &item.entity;
     let touched = is_touched(keys, &entity.body);
     marked.add_if(touched, entity.id)?;
     push_if(queue, touched, entity.id)?;
@@ -191,7 +191,7 @@ fn complete_way(nodes: &mut Ids, ways: &Ids, item: &Item) -> Result<(), NoMemory
     ensures { OnOk result (among nodes.new
         ≡ either (among nodes.old) (λ id. completes (among ways.now) id item.now)) }
 {
-    let entity = &item.entity;
+    let entity: &Entity = &item.entity;
     add_refs_if(nodes, ways.has(entity.id), &entity.body)
 }
 

@@ -73,19 +73,17 @@ fn lists_hold<R: Abort + AllocGlobal>(rt: &R) -> bool {
 }
 
 fn items_hold<R: Abort + AllocGlobal>(rt: &R) -> bool {
-    let way = Item {
-        act: Act::Delete,
-        entity: Entity {
-            id: -7,
-            version: 2,
-            time: 5,
-            changeset: 6,
-            uid: 7,
-            user: Text::new(rt.alloc()),
-            tags: Tags::new(rt.alloc()),
-            body: Body::Way(Refs::new(rt.alloc())),
-        },
+    let entity = Entity {
+        id: -7,
+        version: 2,
+        time: 5,
+        changeset: 6,
+        uid: 7,
+        user: Text::new(rt.alloc()),
+        tags: Tags::new(rt.alloc()),
+        body: Body::Way(Refs::new(rt.alloc())),
     };
+    let way = Item::new(rt.alloc(), Act::Delete, entity).expect(rt, "an item");
     way.held();
     let copy = way.copy(rt.alloc()).expect(rt, "a copy");
     let same = copy.key() == way.key() && copy.act == Act::Delete && copy.entity.changeset == 6;

@@ -5,7 +5,7 @@ ghost use Rattle.osm_used.specs.Used.{has_id, is_not_of, items_left, stays_if};
 
 use crate::ids::Ids;
 use crate::naming::is_same;
-use osm_entity::{End, Held, Item, Kind};
+use osm_entity::{End, Entity, Held, Item, Kind};
 
 fn is_not_of(kind: Kind, item: &Item) -> bool
     ensures { result ≡ is_not_of kind item.now }
@@ -16,7 +16,7 @@ fn is_not_of(kind: Kind, item: &Item) -> bool
 fn stays(kind: Kind, named: &Ids, item: &Item) -> bool
     ensures { result ≡ stays_if kind (has_id named.now) item.now }
 {
-    let entity = &item.entity;
+    let entity: &Entity = &item.entity;
     is_not_of(kind, item) || named.has(entity.id)
 }
 

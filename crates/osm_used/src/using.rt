@@ -13,7 +13,7 @@ use crate::giving::next;
 use crate::ids::Ids;
 use crate::naming::add_named;
 use crate::phase::Phase;
-use osm_entity::{End, Held, Item, Kind, Message, NoMemory, Verdict, Want};
+use osm_entity::{End, Entity, Held, Item, Kind, Message, NoMemory, Verdict, Want};
 use std::alloc::Global;
 use std::marker::Model;
 
@@ -48,7 +48,7 @@ fn hold(kind: Kind, item: Item, kept: &mut Held, named: &mut Ids) -> Result<(), 
     ensures named { OnOk result ((q : ℤ) → has_id named.new q
         ≡ (has_id named.old q || body_names kind item.entity.body q)) }
 {
-    let entity = &item.entity;
+    let entity: &Entity = &item.entity;
     add_named(kind, &entity.body, named)?;
     kept.push(item)
 }

@@ -7,7 +7,7 @@ use Rattle.osm_entity.proofs.item.Item.held.Goals as goal
 
 pub returns : goal.returns
 returns c = λ flow says.
-    let inside = ap (λ (i : ItemValue). i.entity) c.self.view_is in
+    let inside = c.deref-entity.ensures ∙ ap (λ (i : ItemValue). i.entity) c.self.view_is in
     let whole : entity_seen c.entity.inside ≡ c.args.self.now.entity = c.entity.view_is ∙ inside in
     record {
       entity = subst IsEntity inside c.kept-2.ensures;

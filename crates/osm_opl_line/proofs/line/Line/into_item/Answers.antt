@@ -33,8 +33,8 @@ made c id time = record {
 pub invariant_of-entity : goal.invariant_of-entity
 invariant_of-entity c = entity-kept (fields_seen c.self.inside) _ (made c _ _) c.self.invariant.good
 
-pub invariant_of-result : goal.invariant_of-result
-invariant_of-result c =
+pub new-requires : goal.new-requires
+new-requires c =
     item-kept (fields_seen c.self.inside) c.act_of-act.result _
     (rw (← c.self.invariant.version, ← c.self.invariant.deleted) c.act_of-act.ensures) (made c _ _)
     c.self.invariant.good

@@ -16,7 +16,8 @@ returns-in_err-add-clause-some g c =
 pub returns-in_err-close-clause-some : goal.returns-in_err-close-clause-some
 returns-in_err-close-clause-some g c =
     let light : weight_of c.args.item.now.entity ≤ greatest_weight =
-    subst (λ i. weight_of i.entity ≤ greatest_weight) c.item.view_is c.kept.ensures.light in
+    subst (λ i. weight_of i.entity ≤ greatest_weight) c.item.view_is
+    (subst (λ e. weight_of e ≤ greatest_weight) c.deref.ensures c.kept.ensures.light) in
     let refused : c.add.result ≡ Ok false = search rules in
     on_err c.from_residual-in_err-close.result
     (closing-prefix c.args.self.now c.add.new.self c.args.item.now (g.K.Sink.taken c.args.sink.now)
@@ -26,7 +27,8 @@ returns-in_err-close-clause-some g c =
 pub returns-in_err-open-clause-some : goal.returns-in_err-open-clause-some
 returns-in_err-open-clause-some g c =
     let light : weight_of c.args.item.now.entity ≤ greatest_weight =
-    subst (λ i. weight_of i.entity ≤ greatest_weight) c.item.view_is c.kept.ensures.light in
+    subst (λ i. weight_of i.entity ≤ greatest_weight) c.item.view_is
+    (subst (λ e. weight_of e ≤ greatest_weight) c.deref.ensures c.kept.ensures.light) in
     let refused : c.add.result ≡ Ok false = search rules in
     on_err c.from_residual-in_err-open.result
     (closed-prefix c.args.self.now c.add.new.self c.args.item.now (g.K.Sink.taken c.args.sink.now)
@@ -36,7 +38,8 @@ returns-in_err-open-clause-some g c =
 pub returns-in_ok-open-clause-wrote : goal.returns-in_ok-open-clause-wrote
 returns-in_ok-open-clause-wrote g c =
     let light : weight_of c.args.item.now.entity ≤ greatest_weight =
-    subst (λ i. weight_of i.entity ≤ greatest_weight) c.item.view_is c.kept.ensures.light in
+    subst (λ i. weight_of i.entity ≤ greatest_weight) c.item.view_is
+    (subst (λ e. weight_of e ≤ greatest_weight) c.deref.ensures c.kept.ensures.light) in
     let refused : c.add.result ≡ Ok false = search rules in
     closed-wrote c.args.self.now c.add.new.self c.open.new.self c.args.item.now (g.K.Sink.taken c.args.sink.now)
     (g.K.Sink.taken c.close.new.sink) (c.add.ensures.same refused)
