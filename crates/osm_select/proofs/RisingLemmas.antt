@@ -1,9 +1,11 @@
 -- Ids that rise, searched by halves, and others beside them.
-use Rattle.std.proofs.Common.{◌≡◌, ◌∙◌, ℕ, ℤ, List, [], ◌∷◌, ◌++◌, length, get_or, ◌-◌, Bool, true, false, cond, Some, None, Result, Ok, Err, inl, inr, refl, sym, ap, arith}
+use Rattle.std.proofs.Common.{◌≡◌, ◌∙◌, ℕ, ℤ, List, [], ◌∷◌, ◌++◌, length, get_or, ◌-◌, Bool, true, false, cond, Some, None, Result, Ok, Err, inl, inr, refl, sym, ap, arith, subst, ◌≤◌, ◌<ℤ◌}
 use Rattle.std.specs.Prelude.{◌||◌, All, IsSorted, int_le, int_lt, is_ok}
 use Rattle.std.specs.List.{list_any, slice_get}
 use Rattle.std.specs.List.Sorted.{IsBinarySearchResult, IsPartitionPoint, IsSearchInRange}
-use Rattle.std.specs.Ordering.{int_cmp, int_eq, is_eq, is_lt}
+use Rattle.std.specs.Cmp.{int_cmp_is}
+use Rattle.std.specs.Ordering.{int_cmp, int_eq, is_eq, is_lt, ordering_index}
+use Rattle.std.specs.declared.cmp.Ordering.{Ordering}
 use Rattle.std.specs.declared.cmp.Ordering.TheVariants.{Less, Equal, Greater}
 use Rattle.std.proofs.Math.Path.{fun_ext}
 use Rattle.std.proofs.lemmas.Bool.{cases_lt}
@@ -89,3 +91,22 @@ pub goes_on_none : (xs : List ℤ) (id : ℤ) → IsSorted int_cmp xs → slice_
 goes_on_none xs id sorted at = IsSortedBy-push (λ x y. is_lt (int_cmp x y)) xs id sorted
     (λ d some. absurd (let has : slice_get xs (length xs - 1) ≡ Some (get_or xs (length xs - 1) d) =
     slice_get-get_or xs (length xs - 1) d (omega (arith, some)) in cc))
+
+lower : (o : Ordering) → ordering_index o ≤ 0 → is_eq o ≡ false
+lower Less low = refl
+lower Equal low = absurd (omega (arith, low))
+lower Greater low = absurd (omega (arith, low))
+
+less_by : (a b : ℤ) → int_lt a b ≡ true → a <ℤ b
+less_by a b is = grind (arith, is)
+
+-- an id that is greater than the last of ids that rise is not among them
+pub past_last : (xs : List ℤ) (last id : ℤ) → IsSorted int_cmp xs → slice_get xs (length xs - 1) ≡ Some last →
+    int_lt last id ≡ true → among xs id ≡ false
+past_last xs last id sorted at less =
+    sym (ap (λ (test : ℤ → Bool). list_any test xs) (fun_ext (λ y. flip_id y id)))
+    ∙ list_any_none (λ y. int_eq y id) xs (λ k d known. lower (int_cmp (get_or xs k d) id)
+    (subst (λ o. ordering_index (int_cmp (get_or xs k d) id) ≤ ordering_index o)
+    (ap (λ y. int_cmp y id) (get_or_from_slice_get xs (length xs - 1) last d at) ∙ sym (int_cmp_is last id Less (less_by last id less)))
+    (searchable_from_sorted int_cmp_total (λ y. y) xs id sorted k (length xs - 1) d (omega (arith, known))
+    (omega (arith, known)))))

@@ -2,7 +2,7 @@
 //!
 //! Ids come by the million, and in most files they rise. Those that do are gathered in a list,
 //! eight bytes each, which is searched by halves; all others are in a table, some 35 bytes each.
-ghost use Rattle.std.specs.Prelude.{◌≡◌, ◌++◌, ◌∷◌, [], IsSorted, OnOk, cond, true};
+ghost use Rattle.std.specs.Prelude.{◌≡◌, ◌++◌, ◌∷◌, [], IsSorted, OnOk, cond, false, true};
 ghost use Rattle.std.specs.List.{list_any};
 ghost use Rattle.std.specs.Ordering.{int_cmp};
 ghost use Rattle.osm_select.specs.IdSets.{among, no_ids, with_id, either};
@@ -36,6 +36,30 @@ fn is_among(rising: &[i64], id: i64) -> bool
     ensures { result ≡ among rising.now id }
 {
     rising.binary_search(&id).is_ok()
+}
+
+// Whether an id is past all ids that rise. Most of those that are asked for are, and aren't searched.
+fn is_past(rising: &[i64], id: i64) -> bool
+    requires { IsSorted int_cmp rising.now }
+    ensures { result ≡ true → among rising.now id ≡ false }
+{
+    match rising.last() {
+        Some(last) => *last < id,
+        None => true,
+    }
+}
+
+fn is_rising(rising: &[i64], id: i64) -> bool
+    requires { IsSorted int_cmp rising.now }
+    ensures { result ≡ among rising.now id }
+{
+    !is_past(rising, id) && is_among(rising, id)
+}
+
+fn is_other(others: &HashSet<i64>, id: i64) -> bool
+    ensures { result ≡ among others.now.keys id }
+{
+    !others.is_empty() && others.contains(&id)
 }
 
 /// Whether an id can stand behind ids that rise.
@@ -73,7 +97,7 @@ impl Ids {
     pub(crate) fn has(&self, id: i64) -> bool
         ensures { result ≡ among self.now id }
     {
-        is_among(self.rising.as_slice(), id) || self.others.contains(&id)
+        is_rising(self.rising.as_slice(), id) || is_other(&self.others, id)
     }
 
     /// Whether one of some ids is in it.
