@@ -1,3 +1,4 @@
+pub mod FrontLemmas
 pub mod LinkLemmas
 pub mod RisingLemmas
 pub mod RoundLemmas

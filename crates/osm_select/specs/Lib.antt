@@ -1,3 +1,4 @@
+pub mod Front
 pub mod IdSets
 pub mod Kinds
 pub mod Parts

@@ -1,6 +1,7 @@
 //! The ids that a holding task keeps, over all items that it holds.
 ghost use Rattle.std.specs.Prelude.{◌≡◌, ◌&&◌, cond, OnOk, IfOk};
 ghost use Rattle.std.specs.List.{list_any};
+ghost use Rattle.osm_select.specs.Front.{StartWithNodes, is_node};
 ghost use Rattle.osm_select.specs.Held.{completes, has_ref, held_sets, is_drawn, least_relations};
 ghost use Rattle.osm_select.specs.IdSets.{among, either, no_ids, with_id};
 ghost use Rattle.osm_select.specs.Kept.{sets_of};
@@ -51,12 +52,36 @@ fn add_touching(ids: &mut Ids, nodes: &Ids, item: &Item) -> Result<(), NoMemory>
     ids.add_if(touches(nodes, &entity.body), entity.id)
 }
 
-fn touching_ways(alloc: Global, nodes: &Ids, items: &Held) -> Result<Ids, NoMemory>
+fn is_node(item: &Item) -> bool
+    ensures { result ≡ is_node item.now.entity.body }
+{
+    let entity: &Entity = &item.entity;
+    match &entity.body {
+        Body::Node(_) => true,
+        Body::Way(_) => false,
+        Body::Relation(_) => false,
+    }
+}
+
+// How many items come before the first that is no node. What no node has isn't looked for in them.
+fn count_nodes(items: &Held) -> usize
+    ensures { StartWithNodes result items.now }
+{
+    for place in 0..items.len() {
+        if !is_node(items.get(place)) {
+            return place;
+        }
+    }
+    items.len()
+}
+
+fn touching_ways(alloc: Global, nodes: &Ids, items: &Held, start: usize) -> Result<Ids, NoMemory>
+    requires { StartWithNodes start items.now }
     ensures { IfOk result (λ ids. among ids
         ≡ ids_where (λ item. touches (among nodes.now) item.entity.body) items.now) }
 {
     let mut ids = Ids::new(alloc);
-    for place in 0..items.len() {
+    for place in start..items.len() {
         add_touching(&mut ids, nodes, items.get(place))?;
     }
     Ok(ids)
@@ -146,15 +171,22 @@ fn draw_item(
 }
 
 /// Adds the least set of relations to the nodes inside and the ways that touch them.
-fn draw(alloc: Global, area: &Area, keys: &mut Keys, items: &Held) -> Result<(), NoMemory>
-    requires { sets_of keys.old ≡ around area.now items.now no_ids }
+fn draw(
+    alloc: Global,
+    area: &Area,
+    keys: &mut Keys,
+    items: &Held,
+    start: usize,
+) -> Result<(), NoMemory>
+    requires nodes { StartWithNodes start items.now }
+    requires around { sets_of keys.old ≡ around area.now items.now no_ids }
     ensures { OnOk result
         (sets_of keys.new ≡ around area.now items.now (least_relations area.now items.now)) }
 {
     let mut marked = Ids::new(alloc);
     let mut queue = Sequence::new(alloc);
     let mut links = Links::new(alloc);
-    for place in 0..items.len() {
+    for place in start..items.len() {
         draw_item(
             alloc,
             keys,
@@ -196,22 +228,30 @@ fn complete_way(nodes: &mut Ids, ways: &Ids, item: &Item) -> Result<(), NoMemory
 }
 
 /// Adds the nodes of the ways of these ids.
-fn complete_ways(nodes: &mut Ids, ways: &Ids, items: &Held) -> Result<(), NoMemory>
+fn complete_ways(nodes: &mut Ids, ways: &Ids, items: &Held, start: usize) -> Result<(), NoMemory>
+    requires { StartWithNodes start items.now }
     ensures { OnOk result (among nodes.new
         ≡ either (among nodes.old) (λ id. list_any (completes (among ways.now) id) items.now)) }
 {
-    for place in 0..items.len() {
+    for place in start..items.len() {
         complete_way(nodes, ways, items.get(place))?;
     }
     Ok(())
 }
 
-fn complete_if(complete: bool, nodes: &mut Ids, ways: &Ids, items: &Held) -> Result<(), NoMemory>
+fn complete_if(
+    complete: bool,
+    nodes: &mut Ids,
+    ways: &Ids,
+    items: &Held,
+    start: usize,
+) -> Result<(), NoMemory>
+    requires { StartWithNodes start items.now }
     ensures { OnOk result (among nodes.new ≡ either (among nodes.old)
         (λ id. complete && list_any (completes (among ways.now) id) items.now)) }
 {
     if complete {
-        complete_ways(nodes, ways, items)
+        complete_ways(nodes, ways, items, start)
     } else {
         Ok(())
     }
@@ -226,14 +266,15 @@ pub(crate) fn kept_ids(
 ) -> Result<Keys, NoMemory>
     ensures { IfOk result (λ keys. sets_of keys ≡ held_sets area.now complete items.now) }
 {
+    let start = count_nodes(items);
     let nodes = nodes_inside(alloc, area, items)?;
-    let ways = touching_ways(alloc, &nodes, items)?;
+    let ways = touching_ways(alloc, &nodes, items, start)?;
     let mut keys = Keys {
         nodes,
         ways,
         relations: Ids::new(alloc),
     };
-    draw(alloc, area, &mut keys, items)?;
-    complete_if(complete, &mut keys.nodes, &keys.ways, items)?;
+    draw(alloc, area, &mut keys, items, start)?;
+    complete_if(complete, &mut keys.nodes, &keys.ways, items, start)?;
     Ok(keys)
 }

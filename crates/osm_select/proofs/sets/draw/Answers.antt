@@ -1,18 +1,21 @@
-use Rattle.std.proofs.Common.{ap, subst, ◌≤◌}
+use Rattle.std.proofs.Common.{ap, subst, take, ◌∙◌, ◌≤◌}
 use Rattle.osm_select.specs.Held.{is_drawn}
 use Rattle.osm_select.specs.IdSets.{among}
 use Rattle.osm_select.specs.Kept.{sets_of}
 use Rattle.osm_select.specs.Links.{linked}
 use Rattle.osm_select.proofs.DrawLemmas.{draws}
+use Rattle.osm_select.proofs.FrontLemmas.{nodes_are_not_drawn, nodes_link_none}
 use Rattle.osm_select.proofs.HeldLemmas.{links_held, where_held}
 use Rattle.osm_select.proofs.sets.draw.Goals as goal
 
 pub loop-place-init : goal.loop-place-init
-loop-place-init c = record {
-  marked = c.new-marked.ensures;
-  queue = ap among c.new-queue.ensures;
-  links = c.new-links.ensures;
-}
+loop-place-init c =
+    let front = take c.args.start c.args.items.now in
+    record {
+      marked = c.new-marked.ensures ∙ nodes_are_not_drawn (sets_of c.args.keys.now) front c.requires.nodes;
+      queue = ap among c.new-queue.ensures ∙ nodes_are_not_drawn (sets_of c.args.keys.now) front c.requires.nodes;
+      links = c.new-links.ensures ∙ nodes_link_none front c.requires.nodes;
+    }
 
 pub loop-place-preserved : goal.loop-place-preserved
 loop-place-preserved c =
@@ -29,7 +32,7 @@ loop-place-preserved c =
 
 pub returns : goal.returns
 returns c = draws c.args.area.now c.args.items.now (sets_of c.args.keys.now) c.loop-place.place
-    (among c.loop-place.marked) (among c.follow.new.marked) (linked c.loop-place.links) c.requires
+    (among c.loop-place.marked) (among c.follow.new.marked) (linked c.loop-place.links) c.requires.around
     (subst (λ n. n ≤ c.loop-place.place) c.len-place-end.ensures c.loop-place-test.false)
     c.loop-place.invariant.marked c.loop-place.invariant.links c.in_ok-follow.ensures.grows
     c.in_ok-follow.ensures.closed c.in_ok-follow.ensures.least

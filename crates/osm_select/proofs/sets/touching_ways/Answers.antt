@@ -1,9 +1,14 @@
-use Rattle.std.proofs.Common.{◌∙◌, ap}
+use Rattle.std.proofs.Common.{◌∙◌, ap, take}
 use Rattle.osm_entity.specs.Items.{ItemValue}
 use Rattle.osm_select.specs.IdSets.{among}
 use Rattle.osm_select.specs.Parts.{ids_where, touches}
+use Rattle.osm_select.proofs.FrontLemmas.{nodes_touch_none}
 use Rattle.osm_select.proofs.HeldLemmas.{take_whole, where_held}
 use Rattle.osm_select.proofs.sets.touching_ways.Goals as goal
+
+pub loop-place-init : goal.loop-place-init
+loop-place-init c = c.new-ids.ensures
+    ∙ nodes_touch_none (among c.args.nodes.now) (take c.args.start c.args.items.now) c.requires
 
 pub loop-place-preserved : goal.loop-place-preserved
 loop-place-preserved c = where_held (λ (item : ItemValue). touches (among c.args.nodes.now) item.entity.body)
